@@ -1,0 +1,967 @@
+-- The rules of rune 0.14.2's grammar.rs as tape programs, each named after its Rust function, with the Rust's line.
+-- A rule stands above those that use it, since antt has no forward references; the six counted rules are entered by name (their bodies are
+-- the `..-body` programs, which `grammar` at the end lists). Rust order: root exprs format stmt item_const inner_attributes attributes modifiers
+-- local item_struct item_use item_enum empty_body struct_body tuple_body item_fn item_impl item_mod is_pat pat is_expr expr expr_with is_range
+-- outer_expr_with labels expr_primary expr_chain empty_group expr_tuple_or_group expr_object pat_object expr_if expr_while expr_loop expr_for
+-- expr_match expr_select condition path expr_binary expr_range block block_with pat_parens parenthesized token_stream.
+-- A Rust `let c = p.checkpoint()?; .. p.close_at(&c, K)?` is `checkpoint do .. close K`: `close` closes over the rows since the nearest
+-- checkpoint round it. A loop's turn and each long branch has a name, so that proofs can cite it.
+-- Assumes nothing.
+use Prim.Native.Nat.{ℕ, zero, suc, _+_, _-_}
+use mathlib.Core.Bool.{Bool, true, false, cond, not, _&&_, _||_}
+use mathlib.Core.Logic.{_⊎_, inl, inr}
+use lib.Dec.{ltb, eqb}
+use Rattle.definition.specs.Kinds.{Eof, K-ident, K-::, K-super, K-crate, K-self, K-number, K-paren, K-paren-end, K-bracket, K-bracket-end, K-brace, K-brace-end, K-comma, K-dot, K-semi, K-:, K-=, K-!, K-dash, K-?, K-label, K-#, K-<, K->, K-||, K-|, K-as, K-dotdot, K-dotdot=, K-=>, K-underscore, K-OpenEmpty, K-CloseEmpty, K-TemplateString, K-async, K-await, K-break, K-const, K-continue, K-default, K-else, K-enum, K-fn, K-for, K-if, K-impl, K-in, K-let, K-loop, K-match, K-mod, K-move, K-pub, K-return, K-select, K-struct, K-use, K-while, K-yield}
+use Rattle.definition.specs.Kinds.{Root, Expr, Error, Local, Item, ItemConst, ItemEnum, ItemFileMod, ItemFn, ItemImpl, ItemMod, ItemStruct, ItemUse, ItemUseGroup, ItemUsePath, InnerAttribute, Attribute, TokenStream, Modifiers, ModifierSuper, ModifierSelf, ModifierCrate, ModifierIn, EmptyBody, StructBody, TupleBody, Field, Variant, FnArgs, Pat, PatArray, PatIgnore, PatObject, PatTuple, AnonymousObjectKey, Path, PathGenerics, Lit, TemplateString, Block, BlockBody, Condition, ClosureArguments, ExprArray, ExprAssign, ExprAwait, ExprBinary, ExprBreak, ExprCall, ExprChain, ExprClosure, ExprContinue, ExprElse, ExprElseIf, ExprEmptyGroup, ExprField, ExprFor, ExprGroup, ExprIf, ExprIndex, ExprLoop, ExprMacroCall, ExprMatch, ExprMatchArm, ExprObject, ExprOperator, ExprRange, ExprRangeFrom, ExprRangeFull, ExprRangeInclusive, ExprRangeTo, ExprRangeToInclusive, ExprReturn, ExprSelect, ExprSelectArm, ExprTry, ExprTuple, ExprUnary, ExprWhile, ExprYield}
+use Rattle.definition.specs.Classes.{isObjectKey, isLit, isPathComponent, isStmtRecovering, isPat, isExprWith, isRange, kindIsCallable, isUnary, isUsePart, isUsePath, isPatOrRest, isSelectArm, isBlockEnd, treated}
+use Rattle.definition.specs.Operators.{Op, from-slice, isNone, isTighter, clashes}
+use Rattle.definition.specs.Prog.{Prog, nth, glued, here, flush, bump, close, stop, enter, ret, _>>=_, _>>_, if_then_else_, checkpoint, loop, skip, refuse, Rule, stmt-rule, item-use-rule, pat-rule, path-rule, outer-rule, binary-rule}
+
+-- ## Steps of the tape
+
+-- Brace::Yes, Range::Yes, Binary::Yes; the context that recovers
+abbrev pub Yes : Bool
+Yes = true
+
+abbrev pub No : Bool
+No = false
+
+abbrev pub StmtCx : Bool
+StmtCx = true
+
+abbrev pub ErrorCx : Bool
+ErrorCx = false
+
+unfoldable pub peek : Prog ℕ
+peek = nth 0
+
+unfoldable pub when : Bool → Prog (Unit {0}) → Prog (Unit {0})
+when b p = if b then p else skip
+
+-- tests of the next kind, and of it with the one glued to it
+unfoldable pub next : (ℕ → Bool) → Prog Bool
+next c = peek >>= λ k. ret (c k)
+
+unfoldable pub next-glued : (ℕ → ℕ → Bool) → Prog Bool
+next-glued c = peek >>= λ k. glued >>= λ g. ret (c k g)
+
+unfoldable pub next-is : ℕ → Prog Bool
+next-is k = peek >>= λ j. ret (eqb j k)
+
+unfoldable pub bump-if : ℕ → Prog Bool
+bump-if k = do
+  b ← next-is k
+  if b then (bump >> ret true) else ret false
+
+unfoldable pub bump-while-turn : ℕ → Bool → Prog (Bool ⊎ Bool)
+bump-while-turn k any = do
+  b ← next-is k
+  if b then (bump >> ret (inl true)) else ret (inr any)
+
+unfoldable pub bump-while : ℕ → Prog Bool
+bump-while k = loop (bump-while-turn k) false
+
+unfoldable pub push : ℕ → Prog (Unit {0})
+push k = checkpoint (bump >> close k)
+
+unfoldable pub empty : ℕ → Prog (Unit {0})
+empty k = checkpoint (close k)
+
+-- `while` of the Rust
+unfoldable pub while-turn : Prog Bool → Prog (Unit {0}) → Unit {0} → Prog (Unit {0} ⊎ Unit {0})
+while-turn c p u = do
+  b ← c
+  if b then (p >> ret (inl tt)) else ret (inr tt)
+
+unfoldable pub while : Prog Bool → Prog (Unit {0}) → Prog (Unit {0})
+while c p = loop (while-turn c p) tt
+
+-- ## The six counted rules, entered
+
+unfoldable pub stmt : Prog (Unit {0})
+stmt = enter stmt-rule >> skip
+
+unfoldable pub item-use : Prog (Unit {0})
+item-use = enter item-use-rule >> skip
+
+unfoldable pub pat : Prog (Unit {0})
+pat = enter pat-rule >> skip
+
+unfoldable pub path : Prog (Unit {0})
+path = enter path-rule >> skip
+
+unfoldable pub outer-expr-with : Bool → Bool → Bool → Bool → Prog ℕ
+outer-expr-with brace range binary cx = enter (outer-rule brace range binary cx)
+
+unfoldable pub expr-binary : Op → ℕ → Bool → Bool → Prog Bool
+expr-binary op least brace cx = enter (binary-rule op least brace cx) >>= λ n. ret (eqb n 1)
+
+-- ## Token streams, attributes, labels, paths, modifiers
+
+-- brackets, parens, braces (1389): what a stream counts up and down
+pub data Matcher : Type 0 where
+  brackets : Matcher
+  parens : Matcher
+  braces : Matcher
+
+unfoldable pub opens : Matcher → ℕ
+opens brackets = K-bracket
+opens parens = K-paren
+opens braces = K-brace
+
+unfoldable pub shuts : Matcher → ℕ
+shuts brackets = K-bracket-end
+shuts parens = K-paren-end
+shuts braces = K-brace-end
+
+unfoldable pub level-after : Matcher → ℕ → ℕ → ℕ
+level-after m k level = cond (eqb k (opens m)) (suc level) (cond (eqb k (shuts m)) (level - 1) level)
+
+-- token_stream (1416). The Rust repeats for ever at the end; here it is refusal 8.
+unfoldable pub stream-step : Matcher → ℕ → Prog (ℕ ⊎ Unit {0})
+stream-step m level = if eqb level 0 then ret (inr tt) else (bump >> ret (inl level))
+
+unfoldable pub stream-turn : Matcher → ℕ → Prog (ℕ ⊎ Unit {0})
+stream-turn m level = do
+  k ← peek
+  if eqb k Eof then refuse 8 else stream-step m (level-after m k level)
+
+unfoldable pub token-stream : Matcher → Prog (Unit {0})
+token-stream m = checkpoint do
+  loop (stream-turn m) 1
+  close TokenStream
+
+-- the tokens of an attribute, if its `[` is there
+unfoldable pub attribute-stream : Prog (Unit {0})
+attribute-stream = do
+  b ← bump-if K-bracket
+  when b (token-stream brackets >> bump)
+
+-- inner_attributes (253)
+unfoldable pub inner-attribute : Prog (Unit {0})
+inner-attribute = checkpoint do
+  bump
+  bump-if K-!
+  attribute-stream
+  close InnerAttribute
+
+unfoldable pub is-inner-attribute : ℕ → ℕ → Bool
+is-inner-attribute k g = eqb k K-# && eqb g K-!
+
+unfoldable pub inner-attributes : Prog (Unit {0})
+inner-attributes = while (next-glued is-inner-attribute) inner-attribute
+
+-- attributes (272)
+unfoldable pub attribute : Prog (Unit {0})
+attribute = checkpoint do
+  bump
+  attribute-stream
+  close Attribute
+
+unfoldable pub is-attribute : ℕ → ℕ → Bool
+is-attribute k g = eqb k K-# && eqb g K-bracket
+
+unfoldable pub attributes : Prog (Unit {0})
+attributes = while (next-glued is-attribute) attribute
+
+-- labels (744)
+unfoldable pub label : Prog (Unit {0})
+label = do
+  bump
+  bump-while K-:
+  skip
+
+unfoldable pub labels : Prog (Unit {0})
+labels = while (next-is K-label) label
+
+-- path (1201)
+unfoldable pub generic-path : Prog (Unit {0})
+generic-path = do
+  path
+  bump-while K-comma
+  skip
+
+unfoldable pub generics : Prog (Unit {0})
+generics = checkpoint do
+  bump
+  while (next isPathComponent) generic-path
+  bump-if K->
+  close PathGenerics
+
+unfoldable pub path-segment : Prog (Unit {0})
+path-segment = do
+  has-generics ← next-is K-::
+  bump
+  when has-generics (while (next-is K-<) generics)
+
+unfoldable pub path-body : Prog (Unit {0})
+path-body = checkpoint do
+  while (next isPathComponent) path-segment
+  close Path
+
+-- modifiers (290): whether `const` is among them
+unfoldable pub modifier-kind : Prog ℕ
+modifier-kind = do
+  k ← peek
+  if eqb k K-super then (bump >> ret ModifierSuper)
+      else if eqb k K-self then (bump >> ret ModifierSelf)
+      else if eqb k K-crate then (bump >> ret ModifierCrate)
+      else if eqb k K-in then (bump >> path >> ret ModifierIn)
+      else ret Error
+
+unfoldable pub modifier-paren : Prog (Unit {0})
+modifier-paren = checkpoint do
+  bump
+  kind ← modifier-kind
+  bump-if K-paren-end
+  close kind
+
+unfoldable pub modifier-pub : Prog (Unit {0})
+modifier-pub = do
+  bump
+  b ← next-is K-paren
+  when b modifier-paren
+
+-- is_const and has_mods go round
+unfoldable pub modifiers-turn : Bool × Bool → Prog ((Bool × Bool) ⊎ (Bool × Bool))
+modifiers-turn m = do
+  k ← peek
+  if eqb k K-pub then (modifier-pub >> ret (inl (m .0, true)))
+      else if eqb k K-const then (bump >> ret (inl (true, true)))
+      else if eqb k K-async then (bump >> ret (inl (m .0, true)))
+      else if eqb k K-move then (bump >> ret (inl (m .0, true)))
+      else ret (inr m)
+
+unfoldable pub modifiers : Prog Bool
+modifiers = checkpoint do
+  m ← loop modifiers-turn (false, false)
+  when (m .1) (close Modifiers)
+  ret (m .0)
+
+-- ## Patterns
+
+-- is_pat (576)
+unfoldable pub is-pat : Prog Bool
+is-pat = next-glued isPat
+
+-- parenthesized (1371); the Rust hands over two function pointers
+unfoldable pub parenthesized-item : Prog (Unit {0}) → Prog (Unit {0})
+parenthesized-item parser = do
+  parser
+  bump-while K-comma
+  skip
+
+unfoldable pub parenthesized : Prog Bool → Prog (Unit {0}) → ℕ → Prog (Unit {0})
+parenthesized is parser end = do
+  bump
+  while is (parenthesized-item parser)
+  bump-if end
+  skip
+
+-- pat_parens (1349)
+unfoldable pub pat-or-rest : Prog (Unit {0})
+pat-or-rest = do
+  b ← next-is K-dotdot
+  if b then bump else pat
+
+unfoldable pub pat-parens : ℕ → Prog (Unit {0})
+pat-parens end = parenthesized (next-glued isPatOrRest) pat-or-rest end
+
+-- pat_object (1031)
+unfoldable pub pat-object-key : Prog (Unit {0})
+pat-object-key = do
+  bump
+  b ← bump-if K-:
+  when b pat
+  bump-while K-comma
+  skip
+
+unfoldable pub pat-object-turn : Unit {0} → Prog (Unit {0} ⊎ Unit {0})
+pat-object-turn u = do
+  k ← peek
+  if eqb k K-dotdot then (bump >> ret (inl tt))
+      else if isObjectKey k then (pat-object-key >> ret (inl tt))
+      else ret (inr tt)
+
+unfoldable pub pat-object : Prog (Unit {0})
+pat-object = do
+  bump
+  loop pat-object-turn tt
+  bump-if K-brace-end
+  skip
+
+-- pat (590)
+unfoldable pub pat-negative : Prog (Unit {0})
+pat-negative = checkpoint do
+  bump
+  bump-if K-number
+  close Lit
+
+unfoldable pub pat-path : Prog (Unit {0})
+pat-path = checkpoint do
+  path
+  k ← peek
+  if eqb k K-brace then (pat-object >> close PatObject)
+      else if eqb k K-paren then (pat-parens K-paren-end >> close PatTuple)
+      else skip
+
+unfoldable pub pat-group : ℕ → ℕ → Prog (Unit {0})
+pat-group end kind = checkpoint do
+  pat-parens end
+  close kind
+
+unfoldable pub pat-anonymous : Prog (Unit {0})
+pat-anonymous = checkpoint do
+  bump
+  close AnonymousObjectKey
+  pat-object
+  close PatObject
+
+unfoldable pub pat-kind : ℕ → ℕ → Prog (Unit {0})
+pat-kind k g =
+    if isLit k then push Lit
+    else if eqb k K-dash then pat-negative
+    else if eqb k K-underscore then push PatIgnore
+    else if isPathComponent k then pat-path
+    else if eqb k K-bracket then pat-group K-bracket-end PatArray
+    else if eqb k K-paren then pat-group K-paren-end PatTuple
+    else if eqb k K-# && eqb g K-brace then pat-anonymous
+    else empty Error
+
+unfoldable pub pat-body : Prog (Unit {0})
+pat-body = checkpoint do
+  attributes
+  k ← peek
+  g ← glued
+  pat-kind k g
+  close Pat
+
+-- ## Items that hold no expression
+
+-- empty_body (464), struct_body (471), tuple_body (489)
+unfoldable pub empty-body : Prog (Unit {0})
+empty-body = empty EmptyBody
+
+unfoldable pub field : Prog (Unit {0})
+field = do
+  push Field
+  bump-while K-comma
+  skip
+
+unfoldable pub field-body : ℕ → ℕ → Prog (Unit {0})
+field-body end kind = checkpoint do
+  bump
+  while (next-is K-ident) field
+  bump-if end
+  close kind
+
+unfoldable pub struct-body : Prog (Unit {0})
+struct-body = field-body K-brace-end StructBody
+
+unfoldable pub tuple-body : Prog (Unit {0})
+tuple-body = field-body K-paren-end TupleBody
+
+-- the body of a struct or of a variant
+unfoldable pub any-body : Prog (Unit {0})
+any-body = do
+  k ← peek
+  if eqb k K-brace then struct-body
+      else if eqb k K-paren then tuple-body
+      else empty-body
+
+-- item_struct (364)
+unfoldable pub item-struct : Prog (Unit {0})
+item-struct = do
+  bump
+  bump-if K-ident
+  any-body
+
+-- item_use (387)
+unfoldable pub use-path : Prog (Unit {0})
+use-path = do
+  checkpoint (item-use >> close ItemUsePath)
+  bump-while K-comma
+  skip
+
+unfoldable pub use-group : Prog (Unit {0})
+use-group = checkpoint do
+  bump
+  while (next isUsePath) use-path
+  bump-if K-brace-end
+  close ItemUseGroup
+
+unfoldable pub item-use-turn : Unit {0} → Prog (Unit {0} ⊎ Unit {0})
+item-use-turn u = do
+  k ← peek
+  if isUsePart k then (bump >> ret (inl tt))
+      else if eqb k K-brace then (use-group >> ret (inl tt))
+      else if eqb k K-as then (bump >> bump-if K-ident >> ret (inl tt))
+      else ret (inr tt)
+
+unfoldable pub item-use-body : Prog (Unit {0})
+item-use-body = do
+  bump
+  loop item-use-turn tt
+
+-- item_enum (423)
+unfoldable pub variant : Prog (Unit {0})
+variant = do
+  checkpoint (bump >> any-body >> close Variant)
+  bump-while K-comma
+  skip
+
+unfoldable pub variants : Prog (Unit {0})
+variants = do
+  while (next-is K-ident) variant
+  bump-if K-brace-end
+  skip
+
+unfoldable pub item-enum : Prog (Unit {0})
+item-enum = do
+  bump
+  bump-if K-ident
+  b ← bump-if K-brace
+  when b variants
+
+-- ## Expressions
+
+-- expr_with (676), and expr (664), which the Rust writes out
+unfoldable pub expr-with : Bool → Bool → Bool → Bool → Prog (Unit {0})
+expr-with brace range binary cx = checkpoint do
+  attributes
+  modifiers
+  labels
+  outer-expr-with brace range binary cx
+  close Expr
+
+unfoldable pub expr : Prog (Unit {0})
+expr = expr-with Yes Yes Yes ErrorCx
+
+-- is_expr_with (628), is_expr (623)
+unfoldable pub is-expr-with : Bool → Bool → Prog Bool
+is-expr-with brace range = next-glued (isExprWith brace range)
+
+unfoldable pub is-expr : Prog Bool
+is-expr = is-expr-with Yes Yes
+
+-- the optional expression of `break`, `return` and `yield`
+unfoldable pub expr-if-any : Bool → Bool → Prog (Unit {0})
+expr-if-any brace range = do
+  b ← is-expr-with brace range
+  when b (expr-with brace range Yes ErrorCx)
+
+-- block_with (1333), block (1326)
+unfoldable pub block-body : Prog (Unit {0})
+block-body = checkpoint do
+  while (next (λ k. not (isBlockEnd k))) stmt
+  close BlockBody
+
+unfoldable pub block-with : Prog (Unit {0})
+block-with = do
+  b ← bump-if K-brace
+  when b block-body
+  bump-if K-brace-end
+  skip
+
+unfoldable pub block : Prog (Unit {0})
+block = checkpoint do
+  block-with
+  close Block
+
+-- condition (1177)
+unfoldable pub condition-value : Prog (Unit {0})
+condition-value = expr-with No Yes Yes ErrorCx
+
+unfoldable pub condition-let : Prog (Unit {0})
+condition-let = checkpoint do
+  bump
+  pat
+  b ← bump-if K-=
+  when b condition-value
+  close Condition
+
+unfoldable pub condition : Prog (Unit {0})
+condition = do
+  b ← next-is K-let
+  if b then condition-let else condition-value
+
+-- expr_if (1059)
+unfoldable pub else-branch : Prog (Unit {0})
+else-branch = checkpoint do
+  bump
+  else-if ← bump-if K-if
+  when else-if condition
+  block
+  close (cond else-if ExprElseIf ExprElse)
+
+unfoldable pub expr-if : Prog (Unit {0})
+expr-if = do
+  bump
+  condition
+  block
+  while (next-is K-else) else-branch
+
+-- expr_while (1089), expr_loop (1097), expr_for (1104)
+unfoldable pub expr-while : Prog (Unit {0})
+expr-while = do
+  bump
+  condition
+  block
+
+unfoldable pub expr-loop : Prog (Unit {0})
+expr-loop = do
+  bump
+  block
+
+unfoldable pub expr-for : Prog (Unit {0})
+expr-for = do
+  bump
+  pat
+  b ← bump-if K-in
+  when b (expr-with No Yes Yes ErrorCx)
+  block
+
+-- an expression behind a token that may be there
+unfoldable pub expr-after : ℕ → Prog (Unit {0})
+expr-after k = do
+  b ← bump-if k
+  when b expr
+
+-- expr_match (1118)
+unfoldable pub match-arm : Prog (Unit {0})
+match-arm = do
+  checkpoint do
+    pat
+    expr-after K-if
+    expr-after K-=>
+    close ExprMatchArm
+  bump-while K-comma
+  skip
+
+unfoldable pub arms : Prog Bool → Prog (Unit {0}) → Prog (Unit {0})
+arms is arm = do
+  bump
+  while is arm
+  bump-if K-brace-end
+  skip
+
+unfoldable pub expr-match : Prog (Unit {0})
+expr-match = do
+  bump
+  expr-with No Yes Yes ErrorCx
+  b ← next-is K-brace
+  when b (arms is-pat match-arm)
+
+-- expr_select (1148)
+unfoldable pub select-pat : Prog (Unit {0})
+select-pat = do
+  b ← next-is K-default
+  if b then bump else (pat >> expr-after K-=)
+
+unfoldable pub select-arm : Prog (Unit {0})
+select-arm = do
+  checkpoint do
+    select-pat
+    expr-after K-=>
+    close ExprSelectArm
+  bump-while K-comma
+  skip
+
+unfoldable pub expr-select : Prog (Unit {0})
+expr-select = do
+  bump
+  b ← next-is K-brace
+  when b (arms (next-glued isSelectArm) select-arm)
+
+-- empty_group (977), expr_tuple_or_group (985), expr_object (1012)
+unfoldable pub empty-group : Prog ℕ
+empty-group = do
+  bump
+  expr
+  bump-if K-CloseEmpty
+  ret ExprEmptyGroup
+
+unfoldable pub tuple-turn : Bool → Prog (Bool ⊎ Bool)
+tuple-turn is-tuple = do
+  b ← is-expr
+  if b then (expr >> bump-while K-comma >>= λ c. ret (inl (is-tuple || c))) else ret (inr is-tuple)
+
+unfoldable pub expr-tuple-or-group : Prog ℕ
+expr-tuple-or-group = do
+  bump
+  is-tuple ← loop tuple-turn false
+  bump-if K-paren-end
+  ret (cond is-tuple ExprTuple ExprGroup)
+
+unfoldable pub object-field : Prog (Unit {0})
+object-field = do
+  bump
+  expr-after K-:
+  bump-while K-comma
+  skip
+
+unfoldable pub expr-object : Prog (Unit {0})
+expr-object = do
+  bump
+  while (next isObjectKey) object-field
+  bump-if K-brace-end
+  skip
+
+-- recover (15, 137): the end of the statement is looked for, or refusal 6
+unfoldable pub is-stmt-recovering : Prog Bool
+is-stmt-recovering = nth 0 >>= λ k. nth 1 >>= λ j. ret (isStmtRecovering k j)
+
+unfoldable pub recover : Bool → Prog (Unit {0})
+recover cx = if cx then while is-stmt-recovering bump else refuse 6
+
+-- expr_primary (753): a case ends with its kind closed over the rule's rows, but for a plain path
+unfoldable pub finish : ℕ → Prog ℕ
+finish kind = close kind >> ret kind
+
+unfoldable pub macro-call : Matcher → Prog ℕ
+macro-call m = do
+  bump
+  bump
+  token-stream m
+  bump
+  finish ExprMacroCall
+
+unfoldable pub primary-path : Bool → Prog ℕ
+primary-path brace = do
+  path
+  k ← peek
+  g ← glued
+  if eqb k K-brace && brace then (expr-object >> finish ExprObject)
+      else if eqb k K-! && eqb g K-paren then macro-call parens
+      else if eqb k K-! && eqb g K-brace then macro-call braces
+      else ret Path
+
+unfoldable pub primary-closure : Prog (Unit {0}) → Bool → Bool → Bool → Prog ℕ
+primary-closure arguments brace range cx = do
+  arguments
+  expr-with brace range Yes cx
+  finish ExprClosure
+
+unfoldable pub closure-arguments : Prog (Unit {0})
+closure-arguments = checkpoint do
+  parenthesized is-pat pat K-|
+  close ClosureArguments
+
+unfoldable pub range-to : Bool → Prog ℕ
+range-to brace = do
+  bump
+  b ← is-expr-with brace No
+  if b then (outer-expr-with brace No Yes ErrorCx >> finish ExprRangeTo) else finish ExprRangeFull
+
+unfoldable pub range-to-inclusive : Bool → Prog ℕ
+range-to-inclusive brace = do
+  bump
+  outer-expr-with brace No Yes ErrorCx
+  finish ExprRangeToInclusive
+
+unfoldable pub anonymous-object : Prog ℕ
+anonymous-object = do
+  push AnonymousObjectKey
+  expr-object
+  finish ExprObject
+
+-- the last cases: `..`, `..=`, `#{`, anything else
+unfoldable pub primary-last : Bool → Bool → Bool → ℕ → ℕ → Prog ℕ
+primary-last brace range cx k g =
+    if eqb k K-dotdot && range then range-to brace
+    else if eqb k K-dotdot= && range then range-to-inclusive brace
+    else if eqb k K-# && eqb g K-brace then anonymous-object
+    else (recover cx >> finish Error)
+
+-- the cases that begin with a word
+unfoldable pub primary-word : Bool → Bool → Bool → ℕ → ℕ → Prog ℕ
+primary-word brace range cx k g =
+    if eqb k K-if then (expr-if >> finish ExprIf)
+    else if eqb k K-while then (expr-while >> finish ExprWhile)
+    else if eqb k K-loop then (expr-loop >> finish ExprLoop)
+    else if eqb k K-break then (bump >> labels >> expr-if-any brace range >> finish ExprBreak)
+    else if eqb k K-continue then (bump >> labels >> finish ExprContinue)
+    else if eqb k K-return then (bump >> expr-if-any brace range >> finish ExprReturn)
+    else if eqb k K-yield then (bump >> expr-if-any brace range >> finish ExprYield)
+    else if eqb k K-for then (expr-for >> finish ExprFor)
+    else if eqb k K-select then (expr-select >> finish ExprSelect)
+    else if eqb k K-match then (expr-match >> finish ExprMatch)
+    else primary-last brace range cx k g
+
+-- closures and unary operators
+unfoldable pub primary-prefix : Bool → Bool → Bool → ℕ → ℕ → Prog ℕ
+primary-prefix brace range cx k g =
+    if eqb k K-|| then primary-closure (push ClosureArguments) brace range cx
+    else if eqb k K-| then primary-closure closure-arguments brace range cx
+    else if eqb k K-dash && eqb g K-number then (bump >> bump >> finish Lit)
+    else if isUnary k then (bump >> outer-expr-with brace range No cx >> finish ExprUnary)
+    else primary-word brace range cx k g
+
+unfoldable pub primary-kind : Bool → Bool → Bool → ℕ → ℕ → Prog ℕ
+primary-kind brace range cx k g =
+    if isLit k then (bump >> finish Lit)
+    else if isPathComponent k then primary-path brace
+    else if eqb k K-OpenEmpty then (empty-group >>= finish)
+    else if eqb k K-paren then (expr-tuple-or-group >>= finish)
+    else if eqb k K-bracket then (parenthesized is-expr expr K-bracket-end >> finish ExprArray)
+    else if eqb k K-brace then (block-with >> finish Block)
+    else if eqb k K-TemplateString then (bump >> finish TemplateString)
+    else primary-prefix brace range cx k g
+
+unfoldable pub expr-primary : Bool → Bool → Bool → Prog ℕ
+expr-primary brace range cx = checkpoint do
+  k ← peek
+  g ← glued
+  primary-kind brace range cx k g
+
+-- expr_chain (908). A link's kind, or 0 where none follows
+unfoldable pub field-link : Prog ℕ
+field-link = do
+  bump
+  k ← peek
+  if eqb k K-await then (bump >> ret ExprAwait)
+      else if isPathComponent k then (path >> ret ExprField)
+      else if eqb k K-number then (bump >> ret ExprField)
+      else ret Error
+
+unfoldable pub chain-link : ℕ → ℕ → Prog ℕ
+chain-link kind k =
+    if eqb k K-bracket && kindIsCallable kind then (bump >> expr >> bump-if K-bracket-end >> ret ExprIndex)
+    else if eqb k K-paren && kindIsCallable kind then (parenthesized is-expr expr K-paren-end >> ret ExprCall)
+    else if eqb k K-? then (bump >> ret ExprTry)
+    else if eqb k K-dot then field-link
+    else ret 0
+
+-- The mark `before`, which the Rust takes before the first link and after each: here at the head of each turn. The kind and has_chain go round.
+unfoldable pub chain-turn : ℕ × Bool → Prog ((ℕ × Bool) ⊎ (ℕ × Bool))
+chain-turn c = checkpoint do
+  k ← peek
+  kind ← chain-link (c .0) k
+  if eqb kind 0 then ret (inr c) else (close kind >> ret (inl (kind, true)))
+
+-- it closes over the rows of `outer_expr_with`
+unfoldable pub expr-chain : ℕ → Prog ℕ
+expr-chain kind = do
+  c ← loop chain-turn (kind, false)
+  when (c .1) (close ExprChain)
+  ret (c .0)
+
+-- expr_range (1290), over the rows of `outer_expr_with` too
+unfoldable pub range-rest : Bool → ℕ → ℕ → Prog ℕ
+range-rest brace kind none = do
+  bump
+  b ← is-expr-with brace No
+  if b then (outer-expr-with brace No Yes ErrorCx >> finish kind) else finish none
+
+unfoldable pub expr-range : ℕ → Bool → Prog ℕ
+expr-range kind brace = do
+  k ← peek
+  if eqb k K-dotdot then range-rest brace ExprRange ExprRangeFrom
+      else if eqb k K-dotdot= then range-rest brace ExprRangeInclusive Error
+      else ret kind
+
+-- expr_binary (1234)
+unfoldable pub lookahead : Prog Op
+lookahead = nth 0 >>= λ k. nth 1 >>= λ j. ret (from-slice k j)
+
+unfoldable pub advance : Op → Prog (Unit {0})
+advance op = if eqb (op .tokens) 2 then (bump >> bump) else bump
+
+-- what follows an operand: tighter operators make a group from the operand on, an equal one that is not associative is refused at the operand
+unfoldable pub tighter-turn : Op → Bool → Bool → ℕ → Op → Prog (Op ⊎ Op)
+tighter-turn op brace cx place next =
+    if isNone next then ret (inr next)
+    else if isTighter op next then (do
+      any ← expr-binary next (op .binding + 1) brace cx
+      when any (close ExprBinary)
+      n ← lookahead
+      ret (inl n))
+    else if clashes op next then stop 7 place
+    else ret (inr next)
+
+unfoldable pub operand : Op → Bool → Bool → Prog Op
+operand op brace cx = checkpoint do
+  place ← here
+  outer-expr-with brace No No cx
+  next ← lookahead
+  loop (tighter-turn op brace cx place) next
+
+-- the operator and has_any go round
+unfoldable pub binary-turn : ℕ → Bool → Bool → Op × Bool → Prog ((Op × Bool) ⊎ Bool)
+binary-turn least brace cx b =
+    if isNone (b .0) || ltb (b .0 .binding) least then ret (inr (b .1)) else (do
+      checkpoint (advance (b .0) >> close ExprOperator)
+      next ← operand (b .0) brace cx
+      ret (inl (next, true)))
+
+unfoldable pub binary-body : Op → ℕ → Bool → Bool → Prog Bool
+binary-body op least brace cx = loop (binary-turn least brace cx) (op, false)
+
+-- outer_expr_with (705)
+unfoldable pub outer-assign : Bool → Bool → Prog ℕ
+outer-assign brace cx = do
+  close Expr
+  bump
+  expr-with brace Yes Yes cx
+  finish ExprAssign
+
+unfoldable pub outer-binary : ℕ → Bool → Bool → Prog ℕ
+outer-binary kind brace cx = do
+  op ← lookahead
+  any ← expr-binary op 0 brace cx
+  if any then finish ExprBinary else ret kind
+
+unfoldable pub outer-rest : ℕ → Bool → Bool → Bool → Bool → Prog ℕ
+outer-rest kind brace range binary cx = do
+  k ← if binary then outer-binary kind brace cx else ret kind
+  if range then expr-range k brace else ret k
+
+unfoldable pub outer-chain : ℕ → Bool → Bool → Bool → Bool → Prog ℕ
+outer-chain kind₀ brace range binary cx = do
+  kind ← expr-chain kind₀
+  b ← next-is K-=
+  if b then outer-assign brace cx else outer-rest kind brace range binary cx
+
+unfoldable pub outer-body : Bool → Bool → Bool → Bool → Prog ℕ
+outer-body brace range binary cx = checkpoint do
+  kind ← expr-primary brace range cx
+  if isRange kind then ret kind else outer-chain kind brace range binary cx
+
+-- ## Statements, and items that hold them
+
+-- item_const (244), local (354)
+unfoldable pub item-const : Prog (Unit {0})
+item-const = do
+  bump
+  bump-if K-=
+  expr
+
+unfoldable pub local : Bool → Prog (Unit {0})
+local cx = do
+  bump
+  pat
+  bump-if K-=
+  expr-with Yes Yes Yes cx
+
+-- item_fn (507)
+unfoldable pub fn-args : Prog (Unit {0})
+fn-args = checkpoint do
+  bump
+  bump-while K-comma
+  while is-pat (parenthesized-item pat)
+  bump-if K-paren-end
+  close FnArgs
+
+unfoldable pub item-fn : Prog (Unit {0})
+item-fn = do
+  bump
+  bump-if K-ident
+  b ← next-is K-paren
+  when b fn-args
+  c ← next-is K-brace
+  when c block
+
+-- item_impl (539)
+unfoldable pub item-impl : Prog (Unit {0})
+item-impl = do
+  bump
+  b ← next isPathComponent
+  when b path
+  block
+
+-- item_mod (551): whether it has a block
+unfoldable pub item-mod : Prog Bool
+item-mod = do
+  bump
+  bump-if K-ident
+  b ← next-is K-brace
+  when b block
+  ret b
+
+-- stmt (108): the statement's kind
+unfoldable pub stmt-expr : Prog ℕ
+stmt-expr = do
+  labels
+  kind ← outer-expr-with Yes Yes Yes StmtCx
+  ret (cond (eqb kind Error) Error Expr)
+
+unfoldable pub stmt-item : ℕ → Prog (Unit {0}) → Prog ℕ
+stmt-item kind item = do
+  item
+  close kind
+  ret Item
+
+unfoldable pub stmt-mod : Prog ℕ
+stmt-mod = do
+  b ← item-mod
+  close (cond b ItemMod ItemFileMod)
+  ret Item
+
+unfoldable pub stmt-kind : Bool → ℕ → Prog ℕ
+stmt-kind is-const k =
+    if eqb k K-let then (local StmtCx >> ret Local)
+    else if eqb k K-use then stmt-item ItemUse item-use
+    else if eqb k K-struct then stmt-item ItemStruct item-struct
+    else if eqb k K-enum then stmt-item ItemEnum item-enum
+    else if eqb k K-fn then stmt-item ItemFn item-fn
+    else if eqb k K-impl then stmt-item ItemImpl item-impl
+    else if eqb k K-mod then stmt-mod
+    else if eqb k K-ident && is-const then stmt-item ItemConst item-const
+    else stmt-expr
+
+unfoldable pub stmt-inner : Prog ℕ
+stmt-inner = checkpoint do
+  is-const ← modifiers
+  k ← peek
+  stmt-kind is-const k
+
+unfoldable pub stmt-outer : Prog (Unit {0})
+stmt-outer = checkpoint do
+  attributes
+  kind ← stmt-inner
+  close kind
+
+-- a statement that ends where it began is refused with 9
+unfoldable pub stmt-body : Prog (Unit {0})
+stmt-body = do
+  before ← here
+  inner-attributes
+  stmt-outer
+  bump-while K-semi
+  after ← here
+  if eqb after before then stop 9 after else skip
+
+-- ## The grammar, and the entries
+
+unfoldable pub grammar : Rule → Prog ℕ
+grammar stmt-rule = stmt-body >> ret 0
+grammar item-use-rule = item-use-body >> ret 0
+grammar pat-rule = pat-body >> ret 0
+grammar path-rule = path-body >> ret 0
+grammar (outer-rule brace range binary cx) = outer-body brace range binary cx
+grammar (binary-rule op least brace cx) = binary-body op least brace cx >>= λ any. ret (cond any 1 0)
+
+-- An entry's `open(Root)` marks row 0, and its `close` closes over all rows.
+unfoldable pub not-eof : Prog Bool
+not-eof = next (λ k. not (eqb k Eof))
+
+unfoldable pub close-root : Prog (Unit {0})
+close-root = flush >> close Root
+
+-- root (74)
+unfoldable pub root : Prog (Unit {0})
+root = while not-eof stmt >> close-root
+
+-- exprs (87)
+unfoldable pub separated : ℕ → Prog (Unit {0})
+separated separator = do
+  expr
+  bump-while (treated separator)
+  skip
+
+unfoldable pub exprs : ℕ → Prog (Unit {0})
+exprs separator = while not-eof (separated separator) >> close-root
+
+-- format (100)
+unfoldable pub format : Prog (Unit {0})
+format = expr >> while not-eof bump >> close-root
