@@ -61,6 +61,13 @@ bump-while-turn k any = do
 unfoldable pub bump-while : ℕ → Prog Bool
 bump-while k = loop (bump-while-turn k) false
 
+-- the same where the Rust drops the answer
+unfoldable pub take-if : ℕ → Prog (Unit {0})
+take-if k = bump-if k >> skip
+
+unfoldable pub take-while : ℕ → Prog (Unit {0})
+take-while k = bump-while k >> skip
+
 unfoldable pub push : ℕ → Prog (Unit {0})
 push k = checkpoint (bump >> close k)
 
@@ -98,7 +105,7 @@ expr-binary op least brace cx = enter (binary-rule op least brace cx) >>= λ n. 
 
 -- ## Token streams, attributes, labels, paths, modifiers
 
--- brackets, parens, braces (1389): what a stream counts up and down
+-- brackets (1401), parens (1409), braces (1417): what a stream counts up and down
 pub data Matcher : Type 0 where
   brackets : Matcher
   parens : Matcher
@@ -117,7 +124,7 @@ shuts braces = K-brace-end
 unfoldable pub level-after : Matcher → ℕ → ℕ → ℕ
 level-after m k level = cond (eqb k (opens m)) (suc level) (cond (eqb k (shuts m)) (level - 1) level)
 
--- token_stream (1416). The Rust repeats for ever at the end; here it is refusal 8.
+-- token_stream (1427). The Rust repeats for ever at the end; here it is refusal 8.
 unfoldable pub stream-step : Matcher → ℕ → Prog (ℕ ⊎ Unit {0})
 stream-step m level = if eqb level 0 then ret (inr tt) else (bump >> ret (inl level))
 
@@ -127,9 +134,7 @@ stream-turn m level = do
   if eqb k Eof then refuse 8 else stream-step m (level-after m k level)
 
 unfoldable pub token-stream : Matcher → Prog (Unit {0})
-token-stream m = checkpoint do
-  loop (stream-turn m) 1
-  close TokenStream
+token-stream m = checkpoint (loop (stream-turn m) 1 >> close TokenStream)
 
 -- the tokens of an attribute, if its `[` is there
 unfoldable pub attribute-stream : Prog (Unit {0})
@@ -137,13 +142,9 @@ attribute-stream = do
   b ← bump-if K-bracket
   when b (token-stream brackets >> bump)
 
--- inner_attributes (253)
+-- inner_attributes (234)
 unfoldable pub inner-attribute : Prog (Unit {0})
-inner-attribute = checkpoint do
-  bump
-  bump-if K-!
-  attribute-stream
-  close InnerAttribute
+inner-attribute = checkpoint (bump >> take-if K-! >> attribute-stream >> close InnerAttribute)
 
 unfoldable pub is-inner-attribute : ℕ → ℕ → Bool
 is-inner-attribute k g = eqb k K-# && eqb g K-!
@@ -151,12 +152,9 @@ is-inner-attribute k g = eqb k K-# && eqb g K-!
 unfoldable pub inner-attributes : Prog (Unit {0})
 inner-attributes = while (next-glued is-inner-attribute) inner-attribute
 
--- attributes (272)
+-- attributes (253)
 unfoldable pub attribute : Prog (Unit {0})
-attribute = checkpoint do
-  bump
-  attribute-stream
-  close Attribute
+attribute = checkpoint (bump >> attribute-stream >> close Attribute)
 
 unfoldable pub is-attribute : ℕ → ℕ → Bool
 is-attribute k g = eqb k K-# && eqb g K-bracket
@@ -164,29 +162,19 @@ is-attribute k g = eqb k K-# && eqb g K-bracket
 unfoldable pub attributes : Prog (Unit {0})
 attributes = while (next-glued is-attribute) attribute
 
--- labels (744)
+-- labels (746)
 unfoldable pub label : Prog (Unit {0})
-label = do
-  bump
-  bump-while K-:
-  skip
+label = bump >> take-while K-:
 
 unfoldable pub labels : Prog (Unit {0})
 labels = while (next-is K-label) label
 
--- path (1201)
+-- path (1220)
 unfoldable pub generic-path : Prog (Unit {0})
-generic-path = do
-  path
-  bump-while K-comma
-  skip
+generic-path = path >> take-while K-comma
 
 unfoldable pub generics : Prog (Unit {0})
-generics = checkpoint do
-  bump
-  while (next isPathComponent) generic-path
-  bump-if K->
-  close PathGenerics
+generics = checkpoint (bump >> while (next isPathComponent) generic-path >> take-if K-> >> close PathGenerics)
 
 unfoldable pub path-segment : Prog (Unit {0})
 path-segment = do
@@ -195,11 +183,9 @@ path-segment = do
   when has-generics (while (next-is K-<) generics)
 
 unfoldable pub path-body : Prog (Unit {0})
-path-body = checkpoint do
-  while (next isPathComponent) path-segment
-  close Path
+path-body = checkpoint (while (next isPathComponent) path-segment >> close Path)
 
--- modifiers (290): whether `const` is among them
+-- modifiers (271): whether `const` is among them
 unfoldable pub modifier-kind : Prog ℕ
 modifier-kind = do
   k ← peek
@@ -213,7 +199,7 @@ unfoldable pub modifier-paren : Prog (Unit {0})
 modifier-paren = checkpoint do
   bump
   kind ← modifier-kind
-  bump-if K-paren-end
+  take-if K-paren-end
   close kind
 
 unfoldable pub modifier-pub : Prog (Unit {0})
@@ -240,25 +226,18 @@ modifiers = checkpoint do
 
 -- ## Patterns
 
--- is_pat (576)
+-- is_pat (542)
 unfoldable pub is-pat : Prog Bool
 is-pat = next-glued isPat
 
--- parenthesized (1371); the Rust hands over two function pointers
+-- parenthesized (1384); the Rust hands over two function pointers
 unfoldable pub parenthesized-item : Prog (Unit {0}) → Prog (Unit {0})
-parenthesized-item parser = do
-  parser
-  bump-while K-comma
-  skip
+parenthesized-item parser = parser >> take-while K-comma
 
 unfoldable pub parenthesized : Prog Bool → Prog (Unit {0}) → ℕ → Prog (Unit {0})
-parenthesized is parser end = do
-  bump
-  while is (parenthesized-item parser)
-  bump-if end
-  skip
+parenthesized is parser end = bump >> while is (parenthesized-item parser) >> take-if end
 
--- pat_parens (1349)
+-- pat_parens (1363)
 unfoldable pub pat-or-rest : Prog (Unit {0})
 pat-or-rest = do
   b ← next-is K-dotdot
@@ -267,14 +246,13 @@ pat-or-rest = do
 unfoldable pub pat-parens : ℕ → Prog (Unit {0})
 pat-parens end = parenthesized (next-glued isPatOrRest) pat-or-rest end
 
--- pat_object (1031)
+-- pat_object (1043)
 unfoldable pub pat-object-key : Prog (Unit {0})
 pat-object-key = do
   bump
   b ← bump-if K-:
   when b pat
-  bump-while K-comma
-  skip
+  take-while K-comma
 
 unfoldable pub pat-object-turn : Unit {0} → Prog (Unit {0} ⊎ Unit {0})
 pat-object-turn u = do
@@ -284,18 +262,11 @@ pat-object-turn u = do
       else ret (inr tt)
 
 unfoldable pub pat-object : Prog (Unit {0})
-pat-object = do
-  bump
-  loop pat-object-turn tt
-  bump-if K-brace-end
-  skip
+pat-object = bump >> loop pat-object-turn tt >> take-if K-brace-end
 
--- pat (590)
+-- pat (556)
 unfoldable pub pat-negative : Prog (Unit {0})
-pat-negative = checkpoint do
-  bump
-  bump-if K-number
-  close Lit
+pat-negative = checkpoint (bump >> take-if K-number >> close Lit)
 
 unfoldable pub pat-path : Prog (Unit {0})
 pat-path = checkpoint do
@@ -306,16 +277,10 @@ pat-path = checkpoint do
       else skip
 
 unfoldable pub pat-group : ℕ → ℕ → Prog (Unit {0})
-pat-group end kind = checkpoint do
-  pat-parens end
-  close kind
+pat-group end kind = checkpoint (pat-parens end >> close kind)
 
 unfoldable pub pat-anonymous : Prog (Unit {0})
-pat-anonymous = checkpoint do
-  bump
-  close AnonymousObjectKey
-  pat-object
-  close PatObject
+pat-anonymous = checkpoint (bump >> close AnonymousObjectKey >> pat-object >> close PatObject)
 
 unfoldable pub pat-kind : ℕ → ℕ → Prog (Unit {0})
 pat-kind k g =
@@ -338,22 +303,15 @@ pat-body = checkpoint do
 
 -- ## Items that hold no expression
 
--- empty_body (464), struct_body (471), tuple_body (489)
+-- empty_body (441), struct_body (448), tuple_body (466)
 unfoldable pub empty-body : Prog (Unit {0})
 empty-body = empty EmptyBody
 
 unfoldable pub field : Prog (Unit {0})
-field = do
-  push Field
-  bump-while K-comma
-  skip
+field = push Field >> take-while K-comma
 
 unfoldable pub field-body : ℕ → ℕ → Prog (Unit {0})
-field-body end kind = checkpoint do
-  bump
-  while (next-is K-ident) field
-  bump-if end
-  close kind
+field-body end kind = checkpoint (bump >> while (next-is K-ident) field >> take-if end >> close kind)
 
 unfoldable pub struct-body : Prog (Unit {0})
 struct-body = field-body K-brace-end StructBody
@@ -369,75 +327,52 @@ any-body = do
       else if eqb k K-paren then tuple-body
       else empty-body
 
--- item_struct (364)
+-- item_struct (348)
 unfoldable pub item-struct : Prog (Unit {0})
-item-struct = do
-  bump
-  bump-if K-ident
-  any-body
+item-struct = bump >> take-if K-ident >> any-body
 
--- item_use (387)
+-- item_use (371)
 unfoldable pub use-path : Prog (Unit {0})
-use-path = do
-  checkpoint (item-use >> close ItemUsePath)
-  bump-while K-comma
-  skip
+use-path = checkpoint (item-use >> close ItemUsePath) >> take-while K-comma
 
 unfoldable pub use-group : Prog (Unit {0})
-use-group = checkpoint do
-  bump
-  while (next isUsePath) use-path
-  bump-if K-brace-end
-  close ItemUseGroup
+use-group = checkpoint (bump >> while (next isUsePath) use-path >> take-if K-brace-end >> close ItemUseGroup)
 
 unfoldable pub item-use-turn : Unit {0} → Prog (Unit {0} ⊎ Unit {0})
 item-use-turn u = do
   k ← peek
   if isUsePart k then (bump >> ret (inl tt))
       else if eqb k K-brace then (use-group >> ret (inl tt))
-      else if eqb k K-as then (bump >> bump-if K-ident >> ret (inl tt))
+      else if eqb k K-as then (bump >> take-if K-ident >> ret (inl tt))
       else ret (inr tt)
 
 unfoldable pub item-use-body : Prog (Unit {0})
-item-use-body = do
-  bump
-  loop item-use-turn tt
+item-use-body = bump >> loop item-use-turn tt
 
--- item_enum (423)
+-- item_enum (405)
 unfoldable pub variant : Prog (Unit {0})
-variant = do
-  checkpoint (bump >> any-body >> close Variant)
-  bump-while K-comma
-  skip
+variant = checkpoint (bump >> any-body >> close Variant) >> take-while K-comma
 
 unfoldable pub variants : Prog (Unit {0})
-variants = do
-  while (next-is K-ident) variant
-  bump-if K-brace-end
-  skip
+variants = while (next-is K-ident) variant >> take-if K-brace-end
 
 unfoldable pub item-enum : Prog (Unit {0})
 item-enum = do
   bump
-  bump-if K-ident
+  take-if K-ident
   b ← bump-if K-brace
   when b variants
 
 -- ## Expressions
 
--- expr_with (676), and expr (664), which the Rust writes out
+-- expr_with (675), and expr (663), which the Rust writes out
 unfoldable pub expr-with : Bool → Bool → Bool → Bool → Prog (Unit {0})
-expr-with brace range binary cx = checkpoint do
-  attributes
-  modifiers
-  labels
-  outer-expr-with brace range binary cx
-  close Expr
+expr-with brace range binary cx = checkpoint (attributes >> modifiers >> labels >> outer-expr-with brace range binary cx >> close Expr)
 
 unfoldable pub expr : Prog (Unit {0})
 expr = expr-with Yes Yes Yes ErrorCx
 
--- is_expr_with (628), is_expr (623)
+-- is_expr_with (629), is_expr (624)
 unfoldable pub is-expr-with : Bool → Bool → Prog Bool
 is-expr-with brace range = next-glued (isExprWith brace range)
 
@@ -450,25 +385,20 @@ expr-if-any brace range = do
   b ← is-expr-with brace range
   when b (expr-with brace range Yes ErrorCx)
 
--- block_with (1333), block (1326)
+-- block_with (1347), block (1339)
 unfoldable pub block-body : Prog (Unit {0})
-block-body = checkpoint do
-  while (next (λ k. not (isBlockEnd k))) stmt
-  close BlockBody
+block-body = checkpoint (while (next (λ k. not (isBlockEnd k))) stmt >> close BlockBody)
 
 unfoldable pub block-with : Prog (Unit {0})
 block-with = do
   b ← bump-if K-brace
   when b block-body
-  bump-if K-brace-end
-  skip
+  take-if K-brace-end
 
 unfoldable pub block : Prog (Unit {0})
-block = checkpoint do
-  block-with
-  close Block
+block = checkpoint (block-with >> close Block)
 
--- condition (1177)
+-- condition (1198)
 unfoldable pub condition-value : Prog (Unit {0})
 condition-value = expr-with No Yes Yes ErrorCx
 
@@ -485,7 +415,7 @@ condition = do
   b ← next-is K-let
   if b then condition-let else condition-value
 
--- expr_if (1059)
+-- expr_if (1071)
 unfoldable pub else-branch : Prog (Unit {0})
 else-branch = checkpoint do
   bump
@@ -495,23 +425,14 @@ else-branch = checkpoint do
   close (cond else-if ExprElseIf ExprElse)
 
 unfoldable pub expr-if : Prog (Unit {0})
-expr-if = do
-  bump
-  condition
-  block
-  while (next-is K-else) else-branch
+expr-if = bump >> condition >> block >> while (next-is K-else) else-branch
 
--- expr_while (1089), expr_loop (1097), expr_for (1104)
+-- expr_while (1100), expr_loop (1108), expr_for (1115)
 unfoldable pub expr-while : Prog (Unit {0})
-expr-while = do
-  bump
-  condition
-  block
+expr-while = bump >> condition >> block
 
 unfoldable pub expr-loop : Prog (Unit {0})
-expr-loop = do
-  bump
-  block
+expr-loop = bump >> block
 
 unfoldable pub expr-for : Prog (Unit {0})
 expr-for = do
@@ -527,7 +448,7 @@ expr-after k = do
   b ← bump-if k
   when b expr
 
--- expr_match (1118)
+-- expr_match (1129)
 unfoldable pub match-arm : Prog (Unit {0})
 match-arm = do
   checkpoint do
@@ -535,15 +456,10 @@ match-arm = do
     expr-after K-if
     expr-after K-=>
     close ExprMatchArm
-  bump-while K-comma
-  skip
+  take-while K-comma
 
 unfoldable pub arms : Prog Bool → Prog (Unit {0}) → Prog (Unit {0})
-arms is arm = do
-  bump
-  while is arm
-  bump-if K-brace-end
-  skip
+arms is arm = bump >> while is arm >> take-if K-brace-end
 
 unfoldable pub expr-match : Prog (Unit {0})
 expr-match = do
@@ -552,7 +468,7 @@ expr-match = do
   b ← next-is K-brace
   when b (arms is-pat match-arm)
 
--- expr_select (1148)
+-- expr_select (1161)
 unfoldable pub select-pat : Prog (Unit {0})
 select-pat = do
   b ← next-is K-default
@@ -564,8 +480,7 @@ select-arm = do
     select-pat
     expr-after K-=>
     close ExprSelectArm
-  bump-while K-comma
-  skip
+  take-while K-comma
 
 unfoldable pub expr-select : Prog (Unit {0})
 expr-select = do
@@ -573,13 +488,9 @@ expr-select = do
   b ← next-is K-brace
   when b (arms (next-glued isSelectArm) select-arm)
 
--- empty_group (977), expr_tuple_or_group (985), expr_object (1012)
+-- empty_group (998), expr_tuple_or_group (1006), expr_object (1025)
 unfoldable pub empty-group : Prog ℕ
-empty-group = do
-  bump
-  expr
-  bump-if K-CloseEmpty
-  ret ExprEmptyGroup
+empty-group = bump >> expr >> take-if K-CloseEmpty >> ret ExprEmptyGroup
 
 unfoldable pub tuple-turn : Bool → Prog (Bool ⊎ Bool)
 tuple-turn is-tuple = do
@@ -590,41 +501,28 @@ unfoldable pub expr-tuple-or-group : Prog ℕ
 expr-tuple-or-group = do
   bump
   is-tuple ← loop tuple-turn false
-  bump-if K-paren-end
+  take-if K-paren-end
   ret (cond is-tuple ExprTuple ExprGroup)
 
 unfoldable pub object-field : Prog (Unit {0})
-object-field = do
-  bump
-  expr-after K-:
-  bump-while K-comma
-  skip
+object-field = bump >> expr-after K-: >> take-while K-comma
 
 unfoldable pub expr-object : Prog (Unit {0})
-expr-object = do
-  bump
-  while (next isObjectKey) object-field
-  bump-if K-brace-end
-  skip
+expr-object = bump >> while (next isObjectKey) object-field >> take-if K-brace-end
 
--- recover (15, 137): the end of the statement is looked for, or refusal 6
+-- recover (16, 143): the end of the statement is looked for, or refusal 6
 unfoldable pub is-stmt-recovering : Prog Bool
 is-stmt-recovering = nth 0 >>= λ k. nth 1 >>= λ j. ret (isStmtRecovering k j)
 
 unfoldable pub recover : Bool → Prog (Unit {0})
 recover cx = if cx then while is-stmt-recovering bump else refuse 6
 
--- expr_primary (753): a case ends with its kind closed over the rule's rows, but for a plain path
+-- expr_primary (756): a case ends with its kind closed over the rule's rows, but for a plain path
 unfoldable pub finish : ℕ → Prog ℕ
 finish kind = close kind >> ret kind
 
 unfoldable pub macro-call : Matcher → Prog ℕ
-macro-call m = do
-  bump
-  bump
-  token-stream m
-  bump
-  finish ExprMacroCall
+macro-call m = bump >> bump >> token-stream m >> bump >> finish ExprMacroCall
 
 unfoldable pub primary-path : Bool → Prog ℕ
 primary-path brace = do
@@ -637,15 +535,10 @@ primary-path brace = do
       else ret Path
 
 unfoldable pub primary-closure : Prog (Unit {0}) → Bool → Bool → Bool → Prog ℕ
-primary-closure arguments brace range cx = do
-  arguments
-  expr-with brace range Yes cx
-  finish ExprClosure
+primary-closure arguments brace range cx = arguments >> expr-with brace range Yes cx >> finish ExprClosure
 
 unfoldable pub closure-arguments : Prog (Unit {0})
-closure-arguments = checkpoint do
-  parenthesized is-pat pat K-|
-  close ClosureArguments
+closure-arguments = checkpoint (parenthesized is-pat pat K-| >> close ClosureArguments)
 
 unfoldable pub range-to : Bool → Prog ℕ
 range-to brace = do
@@ -654,16 +547,10 @@ range-to brace = do
   if b then (outer-expr-with brace No Yes ErrorCx >> finish ExprRangeTo) else finish ExprRangeFull
 
 unfoldable pub range-to-inclusive : Bool → Prog ℕ
-range-to-inclusive brace = do
-  bump
-  outer-expr-with brace No Yes ErrorCx
-  finish ExprRangeToInclusive
+range-to-inclusive brace = bump >> outer-expr-with brace No Yes ErrorCx >> finish ExprRangeToInclusive
 
 unfoldable pub anonymous-object : Prog ℕ
-anonymous-object = do
-  push AnonymousObjectKey
-  expr-object
-  finish ExprObject
+anonymous-object = push AnonymousObjectKey >> expr-object >> finish ExprObject
 
 -- the last cases: `..`, `..=`, `#{`, anything else
 unfoldable pub primary-last : Bool → Bool → Bool → ℕ → ℕ → Prog ℕ
@@ -714,7 +601,7 @@ expr-primary brace range cx = checkpoint do
   g ← glued
   primary-kind brace range cx k g
 
--- expr_chain (908). A link's kind, or 0 where none follows
+-- expr_chain (934). A link's kind, or 0 where none follows
 unfoldable pub field-link : Prog ℕ
 field-link = do
   bump
@@ -726,7 +613,7 @@ field-link = do
 
 unfoldable pub chain-link : ℕ → ℕ → Prog ℕ
 chain-link kind k =
-    if eqb k K-bracket && kindIsCallable kind then (bump >> expr >> bump-if K-bracket-end >> ret ExprIndex)
+    if eqb k K-bracket && kindIsCallable kind then (bump >> expr >> take-if K-bracket-end >> ret ExprIndex)
     else if eqb k K-paren && kindIsCallable kind then (parenthesized is-expr expr K-paren-end >> ret ExprCall)
     else if eqb k K-? then (bump >> ret ExprTry)
     else if eqb k K-dot then field-link
@@ -746,7 +633,7 @@ expr-chain kind = do
   when (c .1) (close ExprChain)
   ret (c .0)
 
--- expr_range (1290), over the rows of `outer_expr_with` too
+-- expr_range (1306), over the rows of `outer_expr_with` too
 unfoldable pub range-rest : Bool → ℕ → ℕ → Prog ℕ
 range-rest brace kind none = do
   bump
@@ -760,7 +647,7 @@ expr-range kind brace = do
       else if eqb k K-dotdot= then range-rest brace ExprRangeInclusive Error
       else ret kind
 
--- expr_binary (1234)
+-- expr_binary (1252)
 unfoldable pub lookahead : Prog Op
 lookahead = nth 0 >>= λ k. nth 1 >>= λ j. ret (from-slice k j)
 
@@ -797,13 +684,9 @@ binary-turn least brace cx b =
 unfoldable pub binary-body : Op → ℕ → Bool → Bool → Prog Bool
 binary-body op least brace cx = loop (binary-turn least brace cx) (op, false)
 
--- outer_expr_with (705)
+-- outer_expr_with (703)
 unfoldable pub outer-assign : Bool → Bool → Prog ℕ
-outer-assign brace cx = do
-  close Expr
-  bump
-  expr-with brace Yes Yes cx
-  finish ExprAssign
+outer-assign brace cx = close Expr >> bump >> expr-with brace Yes Yes cx >> finish ExprAssign
 
 unfoldable pub outer-binary : ℕ → Bool → Bool → Prog ℕ
 outer-binary kind brace cx = do
@@ -829,39 +712,27 @@ outer-body brace range binary cx = checkpoint do
 
 -- ## Statements, and items that hold them
 
--- item_const (244), local (354)
+-- item_const (226), local (339)
 unfoldable pub item-const : Prog (Unit {0})
-item-const = do
-  bump
-  bump-if K-=
-  expr
+item-const = bump >> take-if K-= >> expr
 
 unfoldable pub local : Bool → Prog (Unit {0})
-local cx = do
-  bump
-  pat
-  bump-if K-=
-  expr-with Yes Yes Yes cx
+local cx = bump >> pat >> take-if K-= >> expr-with Yes Yes Yes cx
 
--- item_fn (507)
+-- item_fn (484)
 unfoldable pub fn-args : Prog (Unit {0})
-fn-args = checkpoint do
-  bump
-  bump-while K-comma
-  while is-pat (parenthesized-item pat)
-  bump-if K-paren-end
-  close FnArgs
+fn-args = checkpoint (bump >> bump-while K-comma >> while is-pat (parenthesized-item pat) >> take-if K-paren-end >> close FnArgs)
 
 unfoldable pub item-fn : Prog (Unit {0})
 item-fn = do
   bump
-  bump-if K-ident
+  take-if K-ident
   b ← next-is K-paren
   when b fn-args
   c ← next-is K-brace
   when c block
 
--- item_impl (539)
+-- item_impl (514)
 unfoldable pub item-impl : Prog (Unit {0})
 item-impl = do
   bump
@@ -869,16 +740,16 @@ item-impl = do
   when b path
   block
 
--- item_mod (551): whether it has a block
+-- item_mod (526): whether it has a block
 unfoldable pub item-mod : Prog Bool
 item-mod = do
   bump
-  bump-if K-ident
+  take-if K-ident
   b ← next-is K-brace
   when b block
   ret b
 
--- stmt (108): the statement's kind
+-- stmt (116): the statement's kind
 unfoldable pub stmt-expr : Prog ℕ
 stmt-expr = do
   labels
@@ -886,10 +757,7 @@ stmt-expr = do
   ret (cond (eqb kind Error) Error Expr)
 
 unfoldable pub stmt-item : ℕ → Prog (Unit {0}) → Prog ℕ
-stmt-item kind item = do
-  item
-  close kind
-  ret Item
+stmt-item kind item = item >> close kind >> ret Item
 
 unfoldable pub stmt-mod : Prog ℕ
 stmt-mod = do
@@ -948,20 +816,17 @@ not-eof = next (λ k. not (eqb k Eof))
 unfoldable pub close-root : Prog (Unit {0})
 close-root = flush >> close Root
 
--- root (74)
+-- root (75)
 unfoldable pub root : Prog (Unit {0})
 root = while not-eof stmt >> close-root
 
--- exprs (87)
+-- exprs (88)
 unfoldable pub separated : ℕ → Prog (Unit {0})
-separated separator = do
-  expr
-  bump-while (treated separator)
-  skip
+separated separator = expr >> take-while (treated separator)
 
 unfoldable pub exprs : ℕ → Prog (Unit {0})
 exprs separator = while not-eof (separated separator) >> close-root
 
--- format (100)
+-- format (102)
 unfoldable pub format : Prog (Unit {0})
 format = expr >> while not-eof bump >> close-root

@@ -1,0 +1,4 @@
+pub mod Kept
+pub mod Unroll
+pub mod More
+pub mod Sizes
