@@ -35,7 +35,9 @@ fn main() {
 fn source_folder() -> PathBuf {
     match env::var_os("RUNE_SRC") {
         Some(given) => PathBuf::from(given),
-        None => Path::new(&env::var_os("CARGO_MANIFEST_DIR").expect("CARGO_MANIFEST_DIR")).join(BESIDE),
+        None => {
+            Path::new(&env::var_os("CARGO_MANIFEST_DIR").expect("CARGO_MANIFEST_DIR")).join(BESIDE)
+        }
     }
 }
 
@@ -69,7 +71,12 @@ fn rules(grammar: &str) -> String {
     for (at, (name, _)) in found.iter().enumerate() {
         writeln!(text, "    pub const {name}: usize = {at};").unwrap();
     }
-    writeln!(text, "}}\npub const RULES: [(&str, bool); {}] = {found:?};", found.len()).unwrap();
+    writeln!(
+        text,
+        "}}\npub const RULES: [(&str, bool); {}] = {found:?};",
+        found.len()
+    )
+    .unwrap();
     text
 }
 

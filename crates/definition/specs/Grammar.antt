@@ -32,20 +32,20 @@ StmtCx = true
 abbrev pub ErrorCx : Bool
 ErrorCx = false
 
-unfoldable pub peek : Prog ℕ
+abbrev pub peek : Prog ℕ
 peek = nth 0
 
-unfoldable pub when : Bool → Prog (Unit {0}) → Prog (Unit {0})
+abbrev pub when : Bool → Prog (Unit {0}) → Prog (Unit {0})
 when b p = if b then p else skip
 
 -- tests of the next kind, and of it with the one glued to it
-unfoldable pub next : (ℕ → Bool) → Prog Bool
+abbrev pub next : (ℕ → Bool) → Prog Bool
 next c = peek >>= λ k. ret (c k)
 
-unfoldable pub next-glued : (ℕ → ℕ → Bool) → Prog Bool
+abbrev pub next-glued : (ℕ → ℕ → Bool) → Prog Bool
 next-glued c = peek >>= λ k. glued >>= λ g. ret (c k g)
 
-unfoldable pub next-is : ℕ → Prog Bool
+abbrev pub next-is : ℕ → Prog Bool
 next-is k = peek >>= λ j. ret (eqb j k)
 
 unfoldable pub bump-if : ℕ → Prog Bool
@@ -62,10 +62,10 @@ unfoldable pub bump-while : ℕ → Prog Bool
 bump-while k = loop (bump-while-turn k) false
 
 -- the same where the Rust drops the answer
-unfoldable pub take-if : ℕ → Prog (Unit {0})
+abbrev pub take-if : ℕ → Prog (Unit {0})
 take-if k = bump-if k >> skip
 
-unfoldable pub take-while : ℕ → Prog (Unit {0})
+abbrev pub take-while : ℕ → Prog (Unit {0})
 take-while k = bump-while k >> skip
 
 unfoldable pub push : ℕ → Prog (Unit {0})
@@ -80,7 +80,7 @@ while-turn c p u = do
   b ← c
   if b then (p >> ret (inl tt)) else ret (inr tt)
 
-unfoldable pub while : Prog Bool → Prog (Unit {0}) → Prog (Unit {0})
+abbrev pub while : Prog Bool → Prog (Unit {0}) → Prog (Unit {0})
 while c p = loop (while-turn c p) tt
 
 -- ## The six counted rules, entered
@@ -133,8 +133,11 @@ stream-turn m level = do
   k ← peek
   if eqb k Eof then refuse 8 else stream-step m (level-after m k level)
 
+unfoldable pub stream : Matcher → Prog (Unit {0})
+stream m = loop (stream-turn m) 1
+
 unfoldable pub token-stream : Matcher → Prog (Unit {0})
-token-stream m = checkpoint (loop (stream-turn m) 1 >> close TokenStream)
+token-stream m = checkpoint (stream m >> close TokenStream)
 
 -- the tokens of an attribute, if its `[` is there
 unfoldable pub attribute-stream : Prog (Unit {0})
@@ -227,7 +230,7 @@ modifiers = checkpoint do
 -- ## Patterns
 
 -- is_pat (542)
-unfoldable pub is-pat : Prog Bool
+abbrev pub is-pat : Prog Bool
 is-pat = next-glued isPat
 
 -- parenthesized (1384); the Rust hands over two function pointers
@@ -243,16 +246,17 @@ pat-or-rest = do
   b ← next-is K-dotdot
   if b then bump else pat
 
-unfoldable pub pat-parens : ℕ → Prog (Unit {0})
+abbrev pub pat-parens : ℕ → Prog (Unit {0})
 pat-parens end = parenthesized (next-glued isPatOrRest) pat-or-rest end
 
 -- pat_object (1043)
-unfoldable pub pat-object-key : Prog (Unit {0})
-pat-object-key = do
-  bump
+unfoldable pub pat-value : Prog (Unit {0})
+pat-value = do
   b ← bump-if K-:
   when b pat
-  take-while K-comma
+
+unfoldable pub pat-object-key : Prog (Unit {0})
+pat-object-key = bump >> pat-value >> take-while K-comma
 
 unfoldable pub pat-object-turn : Unit {0} → Prog (Unit {0} ⊎ Unit {0})
 pat-object-turn u = do
@@ -304,7 +308,7 @@ pat-body = checkpoint do
 -- ## Items that hold no expression
 
 -- empty_body (441), struct_body (448), tuple_body (466)
-unfoldable pub empty-body : Prog (Unit {0})
+abbrev pub empty-body : Prog (Unit {0})
 empty-body = empty EmptyBody
 
 unfoldable pub field : Prog (Unit {0})
@@ -313,10 +317,10 @@ field = push Field >> take-while K-comma
 unfoldable pub field-body : ℕ → ℕ → Prog (Unit {0})
 field-body end kind = checkpoint (bump >> while (next-is K-ident) field >> take-if end >> close kind)
 
-unfoldable pub struct-body : Prog (Unit {0})
+abbrev pub struct-body : Prog (Unit {0})
 struct-body = field-body K-brace-end StructBody
 
-unfoldable pub tuple-body : Prog (Unit {0})
+abbrev pub tuple-body : Prog (Unit {0})
 tuple-body = field-body K-paren-end TupleBody
 
 -- the body of a struct or of a variant
@@ -369,14 +373,14 @@ item-enum = do
 unfoldable pub expr-with : Bool → Bool → Bool → Bool → Prog (Unit {0})
 expr-with brace range binary cx = checkpoint (attributes >> modifiers >> labels >> outer-expr-with brace range binary cx >> close Expr)
 
-unfoldable pub expr : Prog (Unit {0})
+abbrev pub expr : Prog (Unit {0})
 expr = expr-with Yes Yes Yes ErrorCx
 
 -- is_expr_with (629), is_expr (624)
-unfoldable pub is-expr-with : Bool → Bool → Prog Bool
+abbrev pub is-expr-with : Bool → Bool → Prog Bool
 is-expr-with brace range = next-glued (isExprWith brace range)
 
-unfoldable pub is-expr : Prog Bool
+abbrev pub is-expr : Prog Bool
 is-expr = is-expr-with Yes Yes
 
 -- the optional expression of `break`, `return` and `yield`
@@ -389,26 +393,28 @@ expr-if-any brace range = do
 unfoldable pub block-body : Prog (Unit {0})
 block-body = checkpoint (while (next (λ k. not (isBlockEnd k))) stmt >> close BlockBody)
 
-unfoldable pub block-with : Prog (Unit {0})
-block-with = do
+unfoldable pub block-open : Prog (Unit {0})
+block-open = do
   b ← bump-if K-brace
   when b block-body
-  take-if K-brace-end
+
+unfoldable pub block-with : Prog (Unit {0})
+block-with = block-open >> take-if K-brace-end
 
 unfoldable pub block : Prog (Unit {0})
 block = checkpoint (block-with >> close Block)
 
 -- condition (1198)
-unfoldable pub condition-value : Prog (Unit {0})
+abbrev pub condition-value : Prog (Unit {0})
 condition-value = expr-with No Yes Yes ErrorCx
 
-unfoldable pub condition-let : Prog (Unit {0})
-condition-let = checkpoint do
-  bump
-  pat
+unfoldable pub condition-init : Prog (Unit {0})
+condition-init = do
   b ← bump-if K-=
   when b condition-value
-  close Condition
+
+unfoldable pub condition-let : Prog (Unit {0})
+condition-let = checkpoint (bump >> pat >> condition-init >> close Condition)
 
 unfoldable pub condition : Prog (Unit {0})
 condition = do
@@ -416,13 +422,17 @@ condition = do
   if b then condition-let else condition-value
 
 -- expr_if (1071)
+unfoldable pub else-if : Prog Bool
+else-if = do
+  b ← bump-if K-if
+  if b then (condition >> ret true) else ret false
+
 unfoldable pub else-branch : Prog (Unit {0})
 else-branch = checkpoint do
   bump
-  else-if ← bump-if K-if
-  when else-if condition
+  b ← else-if
   block
-  close (cond else-if ExprElseIf ExprElse)
+  if b then close ExprElseIf else close ExprElse
 
 unfoldable pub expr-if : Prog (Unit {0})
 expr-if = bump >> condition >> block >> while (next-is K-else) else-branch
@@ -434,13 +444,13 @@ expr-while = bump >> condition >> block
 unfoldable pub expr-loop : Prog (Unit {0})
 expr-loop = bump >> block
 
-unfoldable pub expr-for : Prog (Unit {0})
-expr-for = do
-  bump
-  pat
+unfoldable pub for-in : Prog (Unit {0})
+for-in = do
   b ← bump-if K-in
   when b (expr-with No Yes Yes ErrorCx)
-  block
+
+unfoldable pub expr-for : Prog (Unit {0})
+expr-for = bump >> pat >> for-in >> block
 
 -- an expression behind a token that may be there
 unfoldable pub expr-after : ℕ → Prog (Unit {0})
@@ -502,7 +512,7 @@ expr-tuple-or-group = do
   bump
   is-tuple ← loop tuple-turn false
   take-if K-paren-end
-  ret (cond is-tuple ExprTuple ExprGroup)
+  if is-tuple then ret ExprTuple else ret ExprGroup
 
 unfoldable pub object-field : Prog (Unit {0})
 object-field = bump >> expr-after K-: >> take-while K-comma
@@ -511,14 +521,14 @@ unfoldable pub expr-object : Prog (Unit {0})
 expr-object = bump >> while (next isObjectKey) object-field >> take-if K-brace-end
 
 -- recover (16, 143): the end of the statement is looked for, or refusal 6
-unfoldable pub is-stmt-recovering : Prog Bool
+abbrev pub is-stmt-recovering : Prog Bool
 is-stmt-recovering = nth 0 >>= λ k. nth 1 >>= λ j. ret (isStmtRecovering k j)
 
 unfoldable pub recover : Bool → Prog (Unit {0})
 recover cx = if cx then while is-stmt-recovering bump else refuse 6
 
 -- expr_primary (756): a case ends with its kind closed over the rule's rows, but for a plain path
-unfoldable pub finish : ℕ → Prog ℕ
+abbrev pub finish : ℕ → Prog ℕ
 finish kind = close kind >> ret kind
 
 unfoldable pub macro-call : Matcher → Prog ℕ
@@ -648,21 +658,22 @@ expr-range kind brace = do
       else ret kind
 
 -- expr_binary (1252)
-unfoldable pub lookahead : Prog Op
+abbrev pub lookahead : Prog Op
 lookahead = nth 0 >>= λ k. nth 1 >>= λ j. ret (from-slice k j)
 
 unfoldable pub advance : Op → Prog (Unit {0})
 advance op = if eqb (op .tokens) 2 then (bump >> bump) else bump
 
 -- what follows an operand: tighter operators make a group from the operand on, an equal one that is not associative is refused at the operand
+unfoldable pub nest : Op → Op → Bool → Bool → Prog (Unit {0})
+nest op next brace cx = do
+  any ← expr-binary next (op .binding + 1) brace cx
+  when any (close ExprBinary)
+
 unfoldable pub tighter-turn : Op → Bool → Bool → ℕ → Op → Prog (Op ⊎ Op)
 tighter-turn op brace cx place next =
     if isNone next then ret (inr next)
-    else if isTighter op next then (do
-      any ← expr-binary next (op .binding + 1) brace cx
-      when any (close ExprBinary)
-      n ← lookahead
-      ret (inl n))
+    else if isTighter op next then (nest op next brace cx >> lookahead >>= λ n. ret (inl n))
     else if clashes op next then stop 7 place
     else ret (inr next)
 
@@ -694,9 +705,12 @@ outer-binary kind brace cx = do
   any ← expr-binary op 0 brace cx
   if any then finish ExprBinary else ret kind
 
+unfoldable pub outer-op : ℕ → Bool → Bool → Bool → Prog ℕ
+outer-op kind brace binary cx = if binary then outer-binary kind brace cx else ret kind
+
 unfoldable pub outer-rest : ℕ → Bool → Bool → Bool → Bool → Prog ℕ
 outer-rest kind brace range binary cx = do
-  k ← if binary then outer-binary kind brace cx else ret kind
+  k ← outer-op kind brace binary cx
   if range then expr-range k brace else ret k
 
 unfoldable pub outer-chain : ℕ → Bool → Bool → Bool → Bool → Prog ℕ
@@ -720,25 +734,30 @@ unfoldable pub local : Bool → Prog (Unit {0})
 local cx = bump >> pat >> take-if K-= >> expr-with Yes Yes Yes cx
 
 -- item_fn (484)
+unfoldable pub fn-arg-list : Prog (Unit {0})
+fn-arg-list = checkpoint (bump >> take-while K-comma >> while is-pat (parenthesized-item pat) >> take-if K-paren-end >> close FnArgs)
+
 unfoldable pub fn-args : Prog (Unit {0})
-fn-args = checkpoint (bump >> bump-while K-comma >> while is-pat (parenthesized-item pat) >> take-if K-paren-end >> close FnArgs)
+fn-args = do
+  b ← next-is K-paren
+  when b fn-arg-list
+
+unfoldable pub fn-body : Prog (Unit {0})
+fn-body = do
+  b ← next-is K-brace
+  when b block
 
 unfoldable pub item-fn : Prog (Unit {0})
-item-fn = do
-  bump
-  take-if K-ident
-  b ← next-is K-paren
-  when b fn-args
-  c ← next-is K-brace
-  when c block
+item-fn = bump >> take-if K-ident >> fn-args >> fn-body
 
 -- item_impl (514)
-unfoldable pub item-impl : Prog (Unit {0})
-item-impl = do
-  bump
+unfoldable pub impl-path : Prog (Unit {0})
+impl-path = do
   b ← next isPathComponent
   when b path
-  block
+
+unfoldable pub item-impl : Prog (Unit {0})
+item-impl = bump >> impl-path >> block
 
 -- item_mod (526): whether it has a block
 unfoldable pub item-mod : Prog Bool
@@ -746,15 +765,14 @@ item-mod = do
   bump
   take-if K-ident
   b ← next-is K-brace
-  when b block
-  ret b
+  if b then (block >> ret true) else ret false
 
 -- stmt (116): the statement's kind
 unfoldable pub stmt-expr : Prog ℕ
 stmt-expr = do
   labels
   kind ← outer-expr-with Yes Yes Yes StmtCx
-  ret (cond (eqb kind Error) Error Expr)
+  if eqb kind Error then ret Error else ret Expr
 
 unfoldable pub stmt-item : ℕ → Prog (Unit {0}) → Prog ℕ
 stmt-item kind item = item >> close kind >> ret Item
@@ -762,8 +780,7 @@ stmt-item kind item = item >> close kind >> ret Item
 unfoldable pub stmt-mod : Prog ℕ
 stmt-mod = do
   b ← item-mod
-  close (cond b ItemMod ItemFileMod)
-  ret Item
+  if b then (close ItemMod >> ret Item) else (close ItemFileMod >> ret Item)
 
 unfoldable pub stmt-kind : Bool → ℕ → Prog ℕ
 stmt-kind is-const k =
@@ -795,7 +812,7 @@ stmt-body = do
   before ← here
   inner-attributes
   stmt-outer
-  bump-while K-semi
+  take-while K-semi
   after ← here
   if eqb after before then stop 9 after else skip
 
@@ -810,10 +827,10 @@ grammar (outer-rule brace range binary cx) = outer-body brace range binary cx
 grammar (binary-rule op least brace cx) = binary-body op least brace cx >>= λ any. ret (cond any 1 0)
 
 -- An entry's `open(Root)` marks row 0, and its `close` closes over all rows.
-unfoldable pub not-eof : Prog Bool
+abbrev pub not-eof : Prog Bool
 not-eof = next (λ k. not (eqb k Eof))
 
-unfoldable pub close-root : Prog (Unit {0})
+abbrev pub close-root : Prog (Unit {0})
 close-root = flush >> close Root
 
 -- root (75)

@@ -99,9 +99,9 @@ checkpoint p = scope p
 abbrev pub loop : {A B : Type 0} → (A → Prog (A ⊎ B)) → A → Prog B
 loop f a = repeat f a
 
-unfoldable pub skip : Prog (Unit {0})
+abbrev pub skip : Prog (Unit {0})
 skip = ret tt
 
 -- a refusal at the next token
-unfoldable pub refuse : {A : Type 0} → ℕ → Prog A
+abbrev pub refuse : {A : Type 0} → ℕ → Prog A
 refuse n = here >>= λ pl. stop n pl

@@ -2,3 +2,6 @@ pub mod Kept
 pub mod Unroll
 pub mod More
 pub mod Sizes
+pub mod Looking
+pub mod Moves
+pub mod Known

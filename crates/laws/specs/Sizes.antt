@@ -202,3 +202,6 @@ fits g i d m p s = kept i (FitsOn i) (fits-kept i) g d m p s
 
 pub fits-leaves : (i : In) (m n : ℕ) (s : State) → After (FitsOn i m) s (leavesAt i n s)
 fits-leaves i m n s = after-leaves i (FitsOn i) (fits-kept i) m n s
+
+pub fits-leafAt : (i : In) (m : ℕ) (s : State) → After (FitsOn i m) s (leafAt i s)
+fits-leafAt i m s = after-leaf i (FitsOn i) (fits-kept i) m s

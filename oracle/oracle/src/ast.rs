@@ -3,6 +3,8 @@
 pub use crate::kinds::{Delimiter, Kind};
 
 pub use expr_binary::BinOp;
+#[cfg(test)]
+pub use expr_binary::ExprBinary;
 
 /// Where something stands. Only refusal 7 asks, and for a token's index.
 #[derive(Debug, Clone, Copy, PartialEq, Eq, Hash)]
@@ -56,7 +58,21 @@ pub mod prelude {
     pub(crate) use crate::ast;
     pub(crate) use crate::parse::{Peek, Peeker};
 
+    #[cfg(test)]
+    pub(crate) use super::rt;
+
     pub type Result<T, E = crate::compile::Error> = core::result::Result<T, E>;
+}
+
+/// What the unit test in `expr_binary.rs` asks for: the text parses as the node
+/// that is called like the type.
+#[cfg(test)]
+pub(crate) fn rt<T>(text: &str) {
+    let (kinds, lens) = crate::text::tokens(text);
+    let (_, rows) = crate::case::Case::roomy(crate::Entry::Exprs, kinds, lens).rows();
+    let name = core::any::type_name::<T>().rsplit("::").next();
+    let begins = format!("Root(Expr({}(", name.expect("a name"));
+    assert!(crate::tree::show(&rows).starts_with(&begins), "`{text}`");
 }
 
 macro_rules! expr_parse {

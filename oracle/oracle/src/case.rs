@@ -4,7 +4,7 @@ use crate::tree::{self, Row};
 use crate::{parse, Answer, Entry};
 
 /// What goes into a parse.
-#[derive(Debug, Clone, PartialEq, Eq)]
+#[derive(Debug, Clone, PartialEq, Eq, Hash)]
 pub struct Case {
     pub entry: Entry,
     /// 0 unless the entry is `exprs`.

@@ -36,8 +36,8 @@ pub fn reset() {
     set_counts(&[0; RULES.len()]);
 }
 
-/// Rules without an attribute are not counted. Each is called whenever the rule
-/// named beside it runs, so that one's count stands for it.
+/// Functions without an attribute aren't counted themselves. Each is read off a
+/// rule that goes with it: its caller, or what it calls.
 const STANDS_FOR: [(&str, &str); 5] = [
     ("is_expr", "expr_tuple_or_group"),
     ("is_range", "outer_expr_with"),

@@ -256,7 +256,10 @@ kinds! {
 impl Kind {
     /// Whitespace and comments, which the grammar never sees.
     pub const fn is_trivia(self) -> bool {
-        matches!(self, Kind::Whitespace | Kind::Comment | Kind::MultilineComment)
+        matches!(
+            self,
+            Kind::Whitespace | Kind::Comment | Kind::MultilineComment
+        )
     }
 }
 

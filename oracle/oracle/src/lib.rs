@@ -8,10 +8,16 @@ mod ast;
 pub mod case;
 mod compile;
 pub mod coverage;
+pub mod generate;
 mod grammar;
+pub mod known;
 mod parse;
+mod program;
+pub mod report;
+mod rng;
 pub mod text;
 pub mod tree;
+pub mod vectors;
 
 use grammar::Parser;
 use kinds::Kind;
@@ -29,7 +35,7 @@ pub const MOST_BYTES: u64 = 16_777_216;
 pub const DEEPEST: u32 = 256;
 
 /// Which rule the tokens are parsed by.
-#[derive(Debug, Clone, Copy, PartialEq, Eq)]
+#[derive(Debug, Clone, Copy, PartialEq, Eq, Hash)]
 pub enum Entry {
     /// Statements.
     Root,

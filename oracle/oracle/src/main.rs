@@ -1,40 +1,44 @@
 //! The oracle's commands; `README.md` says what each is for.
 
+mod commands;
+
 use std::process::ExitCode;
 
-use oracle::case::Case;
-use oracle::{kinds, text, tree, Entry};
+use oracle::vectors;
+
+const USAGE: &str = "\
+usage: oracle kinds
+       oracle show root|exprs|format TEXT
+       oracle cases --seed S --count N --max-tokens M [--coverage]
+       oracle check FILE
+       oracle vectors [--coverage | --count]";
+
+/// Deep inputs need more stack than a thread has by itself in debug builds.
+const STACK: usize = 64 << 20;
 
 fn main() -> ExitCode {
+    let thread = std::thread::Builder::new().stack_size(STACK).spawn(run);
+    match thread.map(|running| running.join()) {
+        Ok(Ok(Ok(()))) => ExitCode::SUCCESS,
+        Ok(Ok(Err(why))) => {
+            eprintln!("{why}");
+            ExitCode::FAILURE
+        }
+        _ => ExitCode::FAILURE,
+    }
+}
+
+fn run() -> Result<(), String> {
     let args: Vec<String> = std::env::args().skip(1).collect();
     let args: Vec<&str> = args.iter().map(String::as_str).collect();
     match args.as_slice() {
-        ["kinds"] => print_kinds(),
-        ["show", entry, text] => show(entry, text),
-        _ => {
-            eprintln!("usage");
-            return ExitCode::from(2);
-        }
+        ["kinds"] => commands::kinds(),
+        ["show", entry, text] => commands::show(entry, text),
+        ["cases", rest @ ..] => commands::cases(rest),
+        ["check", file] => commands::check(file),
+        ["vectors"] => commands::vectors(&vectors::cases(), false),
+        ["vectors", "--coverage"] => commands::vectors(&vectors::cases(), true),
+        ["vectors", "--count"] => commands::vectors(&[vectors::too_many()], false),
+        _ => Err(USAGE.to_owned()),
     }
-    ExitCode::SUCCESS
-}
-
-fn print_kinds() {
-    for (number, name) in kinds::list() {
-        println!("{number} {name}");
-    }
-}
-
-fn show(entry: &str, text: &str) {
-    let entry = match entry {
-        "root" => Entry::Root,
-        "exprs" => Entry::Exprs,
-        _ => Entry::Format,
-    };
-    let (kinds, lens) = text::tokens(text);
-    let case = Case::roomy(entry, kinds, lens);
-    let (answer, rows) = case.rows();
-    println!("{answer:?}");
-    println!("{}", tree::show(&rows));
-    println!("{:?}", tree::fault(&rows, &case.kinds, &case.lens));
 }

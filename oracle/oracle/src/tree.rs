@@ -65,8 +65,10 @@ pub fn fault(rows: &[Row], kinds: &[u8], lens: &[u32]) -> Option<String> {
 
     for (at, row) in rows.iter().enumerate() {
         let want = if row.is_leaf() {
-            let (kind, length) = tokens.next()?;
-            leaf(*kind, byte, *length)
+            match tokens.next() {
+                Some((kind, length)) => leaf(*kind, byte, *length),
+                None => return Some(format!("row {at} is a token too many")),
+            }
         } else {
             match node(rows, at, byte) {
                 Some(row) => row,

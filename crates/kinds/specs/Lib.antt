@@ -1,0 +1,5 @@
+-- What the contracts cite (Sets, Ops), the law behind the proofs (Every), and laws for callers' proofs (Laws).
+pub mod Every
+pub mod Sets
+pub mod Ops
+pub mod Laws
