@@ -11,6 +11,13 @@ unfoldable pub among : ℕ → List ℕ → Bool
 among k [] = false
 among k (x ∷ l) = elim (eqb k x) [ true ↦ true | false ↦ among k l ]
 
+-- a kind and the one glued to it; a kind that is taken only where a mode allows it
+unfoldable pub glues : ℕ → ℕ → ℕ → ℕ → Bool
+glues a b k g = eqb k a && eqb g b
+
+unfoldable pub allows : Bool → ℕ → ℕ → Bool
+allows mode j k = eqb k j && mode
+
 -- 1 to 127: a token's kind
 unfoldable pub isToken : ℕ → Bool
 isToken k = leb 1 k && leb k 127

@@ -13,8 +13,8 @@ use mathlib.Core.Logic.{_⊎_, inl, inr}
 use lib.Dec.{ltb, eqb}
 use Rattle.definition.specs.Kinds.{Eof, K-ident, K-::, K-super, K-crate, K-self, K-number, K-paren, K-paren-end, K-bracket, K-bracket-end, K-brace, K-brace-end, K-comma, K-dot, K-semi, K-:, K-=, K-!, K-dash, K-?, K-label, K-#, K-<, K->, K-||, K-|, K-as, K-dotdot, K-dotdot=, K-=>, K-underscore, K-OpenEmpty, K-CloseEmpty, K-TemplateString, K-async, K-await, K-break, K-const, K-continue, K-default, K-else, K-enum, K-fn, K-for, K-if, K-impl, K-in, K-let, K-loop, K-match, K-mod, K-move, K-pub, K-return, K-select, K-struct, K-use, K-while, K-yield}
 use Rattle.definition.specs.Kinds.{Root, Expr, Error, Local, Item, ItemConst, ItemEnum, ItemFileMod, ItemFn, ItemImpl, ItemMod, ItemStruct, ItemUse, ItemUseGroup, ItemUsePath, InnerAttribute, Attribute, TokenStream, Modifiers, ModifierSuper, ModifierSelf, ModifierCrate, ModifierIn, EmptyBody, StructBody, TupleBody, Field, Variant, FnArgs, Pat, PatArray, PatIgnore, PatObject, PatTuple, AnonymousObjectKey, Path, PathGenerics, Lit, TemplateString, Block, BlockBody, Condition, ClosureArguments, ExprArray, ExprAssign, ExprAwait, ExprBinary, ExprBreak, ExprCall, ExprChain, ExprClosure, ExprContinue, ExprElse, ExprElseIf, ExprEmptyGroup, ExprField, ExprFor, ExprGroup, ExprIf, ExprIndex, ExprLoop, ExprMacroCall, ExprMatch, ExprMatchArm, ExprObject, ExprOperator, ExprRange, ExprRangeFrom, ExprRangeFull, ExprRangeInclusive, ExprRangeTo, ExprRangeToInclusive, ExprReturn, ExprSelect, ExprSelectArm, ExprTry, ExprTuple, ExprUnary, ExprWhile, ExprYield}
-use Rattle.definition.specs.Classes.{isObjectKey, isLit, isPathComponent, isStmtRecovering, isPat, isExprWith, isRange, kindIsCallable, isUnary, isUsePart, isUsePath, isPatOrRest, isSelectArm, isBlockEnd, treated}
-use Rattle.definition.specs.Operators.{Op, from-slice, isNone, isTighter, clashes}
+use Rattle.definition.specs.Classes.{glues, allows, isObjectKey, isLit, isPathComponent, isStmtRecovering, isPat, isExprWith, isRange, kindIsCallable, isUnary, isUsePart, isUsePath, isPatOrRest, isSelectArm, isBlockEnd, treated}
+use Rattle.definition.specs.Operators.{Op, from-slice, isNone, isBelow, isTighter, clashes}
 use Rattle.definition.specs.Prog.{Prog, nth, glued, here, flush, bump, close, stop, enter, ret, _>>=_, _>>_, if_then_else_, checkpoint, loop, skip, refuse, Rule, stmt-rule, item-use-rule, pat-rule, path-rule, outer-rule, binary-rule}
 
 -- ## Steps of the tape
@@ -149,21 +149,15 @@ attribute-stream = do
 unfoldable pub inner-attribute : Prog (Unit {0})
 inner-attribute = checkpoint (bump >> take-if K-! >> attribute-stream >> close InnerAttribute)
 
-unfoldable pub is-inner-attribute : ℕ → ℕ → Bool
-is-inner-attribute k g = eqb k K-# && eqb g K-!
-
 unfoldable pub inner-attributes : Prog (Unit {0})
-inner-attributes = while (next-glued is-inner-attribute) inner-attribute
+inner-attributes = while (next-glued (glues K-# K-!)) inner-attribute
 
 -- attributes (253)
 unfoldable pub attribute : Prog (Unit {0})
 attribute = checkpoint (bump >> attribute-stream >> close Attribute)
 
-unfoldable pub is-attribute : ℕ → ℕ → Bool
-is-attribute k g = eqb k K-# && eqb g K-bracket
-
 unfoldable pub attributes : Prog (Unit {0})
-attributes = while (next-glued is-attribute) attribute
+attributes = while (next-glued (glues K-# K-bracket)) attribute
 
 -- labels (746)
 unfoldable pub label : Prog (Unit {0})
@@ -246,8 +240,11 @@ pat-or-rest = do
   b ← next-is K-dotdot
   if b then bump else pat
 
-abbrev pub pat-parens : ℕ → Prog (Unit {0})
-pat-parens end = parenthesized (next-glued isPatOrRest) pat-or-rest end
+unfoldable pub pat-item : Prog (Unit {0})
+pat-item = pat-or-rest >> take-while K-comma
+
+unfoldable pub pat-parens : ℕ → Prog (Unit {0})
+pat-parens end = bump >> while (next-glued isPatOrRest) pat-item >> take-if end
 
 -- pat_object (1043)
 unfoldable pub pat-value : Prog (Unit {0})
@@ -294,7 +291,7 @@ pat-kind k g =
     else if isPathComponent k then pat-path
     else if eqb k K-bracket then pat-group K-bracket-end PatArray
     else if eqb k K-paren then pat-group K-paren-end PatTuple
-    else if eqb k K-# && eqb g K-brace then pat-anonymous
+    else if glues K-# K-brace k g then pat-anonymous
     else empty Error
 
 unfoldable pub pat-body : Prog (Unit {0})
@@ -336,8 +333,11 @@ unfoldable pub item-struct : Prog (Unit {0})
 item-struct = bump >> take-if K-ident >> any-body
 
 -- item_use (371)
+unfoldable pub use-item : Prog (Unit {0})
+use-item = checkpoint (item-use >> close ItemUsePath)
+
 unfoldable pub use-path : Prog (Unit {0})
-use-path = checkpoint (item-use >> close ItemUsePath) >> take-while K-comma
+use-path = use-item >> take-while K-comma
 
 unfoldable pub use-group : Prog (Unit {0})
 use-group = checkpoint (bump >> while (next isUsePath) use-path >> take-if K-brace-end >> close ItemUseGroup)
@@ -354,8 +354,11 @@ unfoldable pub item-use-body : Prog (Unit {0})
 item-use-body = bump >> loop item-use-turn tt
 
 -- item_enum (405)
+unfoldable pub variant-item : Prog (Unit {0})
+variant-item = checkpoint (bump >> any-body >> close Variant)
+
 unfoldable pub variant : Prog (Unit {0})
-variant = checkpoint (bump >> any-body >> close Variant) >> take-while K-comma
+variant = variant-item >> take-while K-comma
 
 unfoldable pub variants : Prog (Unit {0})
 variants = while (next-is K-ident) variant >> take-if K-brace-end
@@ -459,14 +462,11 @@ expr-after k = do
   when b expr
 
 -- expr_match (1129)
+unfoldable pub match-case : Prog (Unit {0})
+match-case = checkpoint (pat >> expr-after K-if >> expr-after K-=> >> close ExprMatchArm)
+
 unfoldable pub match-arm : Prog (Unit {0})
-match-arm = do
-  checkpoint do
-    pat
-    expr-after K-if
-    expr-after K-=>
-    close ExprMatchArm
-  take-while K-comma
+match-arm = match-case >> take-while K-comma
 
 unfoldable pub arms : Prog Bool → Prog (Unit {0}) → Prog (Unit {0})
 arms is arm = bump >> while is arm >> take-if K-brace-end
@@ -484,13 +484,11 @@ select-pat = do
   b ← next-is K-default
   if b then bump else (pat >> expr-after K-=)
 
+unfoldable pub select-case : Prog (Unit {0})
+select-case = checkpoint (select-pat >> expr-after K-=> >> close ExprSelectArm)
+
 unfoldable pub select-arm : Prog (Unit {0})
-select-arm = do
-  checkpoint do
-    select-pat
-    expr-after K-=>
-    close ExprSelectArm
-  take-while K-comma
+select-arm = select-case >> take-while K-comma
 
 unfoldable pub expr-select : Prog (Unit {0})
 expr-select = do
@@ -539,9 +537,9 @@ primary-path brace = do
   path
   k ← peek
   g ← glued
-  if eqb k K-brace && brace then (expr-object >> finish ExprObject)
-      else if eqb k K-! && eqb g K-paren then macro-call parens
-      else if eqb k K-! && eqb g K-brace then macro-call braces
+  if allows brace K-brace k then (expr-object >> finish ExprObject)
+      else if glues K-! K-paren k g then macro-call parens
+      else if glues K-! K-brace k g then macro-call braces
       else ret Path
 
 unfoldable pub primary-closure : Prog (Unit {0}) → Bool → Bool → Bool → Prog ℕ
@@ -565,9 +563,9 @@ anonymous-object = push AnonymousObjectKey >> expr-object >> finish ExprObject
 -- the last cases: `..`, `..=`, `#{`, anything else
 unfoldable pub primary-last : Bool → Bool → Bool → ℕ → ℕ → Prog ℕ
 primary-last brace range cx k g =
-    if eqb k K-dotdot && range then range-to brace
-    else if eqb k K-dotdot= && range then range-to-inclusive brace
-    else if eqb k K-# && eqb g K-brace then anonymous-object
+    if allows range K-dotdot k then range-to brace
+    else if allows range K-dotdot= k then range-to-inclusive brace
+    else if glues K-# K-brace k g then anonymous-object
     else (recover cx >> finish Error)
 
 -- the cases that begin with a word
@@ -590,7 +588,7 @@ unfoldable pub primary-prefix : Bool → Bool → Bool → ℕ → ℕ → Prog 
 primary-prefix brace range cx k g =
     if eqb k K-|| then primary-closure (push ClosureArguments) brace range cx
     else if eqb k K-| then primary-closure closure-arguments brace range cx
-    else if eqb k K-dash && eqb g K-number then (bump >> bump >> finish Lit)
+    else if glues K-dash K-number k g then (bump >> bump >> finish Lit)
     else if isUnary k then (bump >> outer-expr-with brace range No cx >> finish ExprUnary)
     else primary-word brace range cx k g
 
@@ -623,8 +621,8 @@ field-link = do
 
 unfoldable pub chain-link : ℕ → ℕ → Prog ℕ
 chain-link kind k =
-    if eqb k K-bracket && kindIsCallable kind then (bump >> expr >> take-if K-bracket-end >> ret ExprIndex)
-    else if eqb k K-paren && kindIsCallable kind then (parenthesized is-expr expr K-paren-end >> ret ExprCall)
+    if allows (kindIsCallable kind) K-bracket k then (bump >> expr >> take-if K-bracket-end >> ret ExprIndex)
+    else if allows (kindIsCallable kind) K-paren k then (parenthesized is-expr expr K-paren-end >> ret ExprCall)
     else if eqb k K-? then (bump >> ret ExprTry)
     else if eqb k K-dot then field-link
     else ret 0
@@ -670,26 +668,30 @@ nest op next brace cx = do
   any ← expr-binary next (op .binding + 1) brace cx
   when any (close ExprBinary)
 
-unfoldable pub tighter-turn : Op → Bool → Bool → ℕ → Op → Prog (Op ⊎ Op)
+unfoldable pub tighter-turn : Op → Bool → Bool → ℕ → Op → Prog (Op ⊎ Unit {0})
 tighter-turn op brace cx place next =
-    if isNone next then ret (inr next)
+    if isNone next then ret (inr tt)
     else if isTighter op next then (nest op next brace cx >> lookahead >>= λ n. ret (inl n))
     else if clashes op next then stop 7 place
-    else ret (inr next)
+    else ret (inr tt)
 
-unfoldable pub operand : Op → Bool → Bool → Prog Op
+unfoldable pub operand : Op → Bool → Bool → Prog (Unit {0})
 operand op brace cx = checkpoint do
   place ← here
   outer-expr-with brace No No cx
   next ← lookahead
   loop (tighter-turn op brace cx place) next
 
--- the operator and has_any go round
+unfoldable pub operator : Op → Prog (Unit {0})
+operator op = checkpoint (advance op >> close ExprOperator)
+
+-- The operator and has_any go round. (What follows the operand is looked up again; nothing has moved since.)
 unfoldable pub binary-turn : ℕ → Bool → Bool → Op × Bool → Prog ((Op × Bool) ⊎ Bool)
 binary-turn least brace cx b =
-    if isNone (b .0) || ltb (b .0 .binding) least then ret (inr (b .1)) else (do
-      checkpoint (advance (b .0) >> close ExprOperator)
-      next ← operand (b .0) brace cx
+    if isBelow least (b .0) then ret (inr (b .1)) else (do
+      operator (b .0)
+      operand (b .0) brace cx
+      next ← lookahead
       ret (inl (next, true)))
 
 unfoldable pub binary-body : Op → ℕ → Bool → Bool → Prog Bool
@@ -791,7 +793,7 @@ stmt-kind is-const k =
     else if eqb k K-fn then stmt-item ItemFn item-fn
     else if eqb k K-impl then stmt-item ItemImpl item-impl
     else if eqb k K-mod then stmt-mod
-    else if eqb k K-ident && is-const then stmt-item ItemConst item-const
+    else if allows is-const K-ident k then stmt-item ItemConst item-const
     else stmt-expr
 
 unfoldable pub stmt-inner : Prog ℕ

@@ -212,6 +212,7 @@ impl Tape {
         ensures { λ r. ⌜ Step c (close kind) tt self r (now (kinds .entry)) (now (lens .entry)) (now (table .entry)) (now (table .exit)) ⌝ }
     {
         let rows = self.rows;
+        let here = self.next;
         if rows < capacity(table.len()) {
             let start = start_of(self, c, table);
             write_row(table, rows, kind as u32, (rows - c) as u32, start, self.byte - start);
@@ -227,7 +228,7 @@ impl Tape {
                 ans: 0,
             };
         }
-        self.refuse(11, self.next)
+        self.refuse(11, here)
     }
 
     // Bumps a token of kind k, if it is the next; the answer says if it was.

@@ -40,8 +40,8 @@ write-row-requires : tie.Need-write-row-requires
 write-row-requires c κs = in-table (c .before .before .before .before .before .before .before .before .before .args .self .rows) (c .before .before .before .before .before .before .before .before .before .args .table .now) (omega (arith, c .before .before .before .before .before .capacity .ensures))
 
 -- src/lib.rt:223:23
-add-t18 : tie.Need-add-t18
-add-t18 c = search needs
+add-t19 : tie.Need-add-t19
+add-t19 c = search needs
 
 -- src/lib.rt:218:13
 same-length : tie.Need-same-length
@@ -71,7 +71,7 @@ close-at-spec =
     cast-write-row
     sub-write-row-2
     write-row-requires
-    add-t18
+    add-t19
     same-length
     returns
     refuse-requires
