@@ -170,17 +170,26 @@ labels = while (next-is K-label) label
 unfoldable pub generic-path : Prog (Unit {0})
 generic-path = path >> take-while K-comma
 
+unfoldable pub generic-paths : Prog (Unit {0})
+generic-paths = while (next isPathComponent) generic-path
+
 unfoldable pub generics : Prog (Unit {0})
-generics = checkpoint (bump >> while (next isPathComponent) generic-path >> take-if K-> >> close PathGenerics)
+generics = checkpoint (bump >> generic-paths >> take-if K-> >> close PathGenerics)
+
+unfoldable pub generics-all : Prog (Unit {0})
+generics-all = while (next-is K-<) generics
 
 unfoldable pub path-segment : Prog (Unit {0})
 path-segment = do
   has-generics ← next-is K-::
   bump
-  when has-generics (while (next-is K-<) generics)
+  when has-generics generics-all
+
+unfoldable pub path-segments : Prog (Unit {0})
+path-segments = while (next isPathComponent) path-segment
 
 unfoldable pub path-body : Prog (Unit {0})
-path-body = checkpoint (while (next isPathComponent) path-segment >> close Path)
+path-body = checkpoint (path-segments >> close Path)
 
 -- modifiers (271): whether `const` is among them
 unfoldable pub modifier-kind : Prog ℕ

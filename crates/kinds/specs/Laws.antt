@@ -1,14 +1,14 @@
 -- Laws of the classes and operators, for the proofs of whoever calls their tests.
 -- Assumes nothing.
-use Prim.Native.Nat.{ℕ, _≤_}
+use Prim.Native.Nat.{ℕ, _≤_, _<_}
 use mathlib.Core.Path.{_≡_, refl, ap, sym, _∙_}
-use mathlib.Core.Bool.{Bool, true, false, cond, _||_, _&&_}
+use mathlib.Core.Bool.{Bool, true, false, cond, _||_, _&&_, and-eq-true-iff}
 use mathlib.Core.List.{List, [], _∷_}
 use native.Mathlib.Omega.{arith}
 use lib.Dec.{eqb}
-use borrow.Author.Tests.{eqb-true}
+use borrow.Author.Tests.{eqb-true, ne-eqb}
 use Rattle.definition.specs.Kinds.{Eof, K-is, K-not}
-use Rattle.definition.specs.Classes.{among, isToken, isTrivia, isObjectKey, isLit, isPathComponent, isStmtRecovering, isPat, isExprWith, isUnary, isUsePart, isUsePath, isPatOrRest, isSelectArm}
+use Rattle.definition.specs.Classes.{among, glues, allows, isToken, isTrivia, isObjectKey, isLit, isPathComponent, isStmtRecovering, isPat, isExprWith, isUnary, isUsePart, isUsePath, isPatOrRest, isSelectArm}
 use Rattle.definition.specs.Operators.{bindings, bindingIn, isNone, from-slice}
 
 -- ## `among` as a chain of `||`, into which `rw` sees
@@ -25,6 +25,32 @@ among-is k (x ∷ l) = go (eqb k x) (among-is k l)
     go : (b : Bool) → among k l ≡ member k l → elim b [ true ↦ true | false ↦ among k l ] ≡ b || member k l
     go true h = refl
     go false h = h
+
+-- ## What `glues` and `allows` have found
+
+pub record Glued (a b k g : ℕ) : Type 0 where
+  pub kind : k ≡ a
+  pub glued : g ≡ b
+
+pub glues-some : (a b k g : ℕ) → glues a b k g ≡ true → Glued a b k g
+unfolding glues
+glues-some a b k g h =
+    record {
+      kind = eqb-true k a (and-eq-true-iff (eqb k a) (eqb g b) .0 h .0);
+      glued = eqb-true g b (and-eq-true-iff (eqb k a) (eqb g b) .0 h .1);
+    }
+
+pub record Allowed (mode : Bool) (j k : ℕ) : Type 0 where
+  pub kind : k ≡ j
+  pub on : mode ≡ true
+
+pub allows-some : (mode : Bool) (j k : ℕ) → allows mode j k ≡ true → Allowed mode j k
+unfolding allows
+allows-some mode j k h =
+    record {
+      kind = eqb-true k j (and-eq-true-iff (eqb k j) mode .0 h .0);
+      on = and-eq-true-iff (eqb k j) mode .0 h .1;
+    }
 
 -- ## No class has Eof
 -- Cited as `not-eof isLit (at-eof true true 0 .lit) h`: the class, that it has no Eof, and that it has k.
@@ -71,6 +97,15 @@ at-eof brace range g =
       select-arm = refl;
       operator = refl;
     }
+
+-- what `glues` and `allows` say of Eof, where they look for another kind
+pub glues-eof : (a b g : ℕ) → 0 < a → glues a b Eof g ≡ false
+unfolding glues
+glues-eof a b g h = simp (ne-eqb 0 a (λ e. omega arith))
+
+pub allows-eof : (mode : Bool) (j : ℕ) → 0 < j → allows mode j Eof ≡ false
+unfolding allows
+allows-eof mode j h = simp (ne-eqb 0 j (λ e. omega arith))
 
 -- ## An operator takes one token or two, and two only where the second is there
 

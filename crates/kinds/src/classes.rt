@@ -2,9 +2,23 @@
 // A test is one expression with no branch, so that its proof is one computed test too; neighbours of docs/KINDS.md are compared as a range.
 // k is a kind, g the kind glued to it, j the second next.
 ghost use mathlib.Core.Path.{_≡_};
-ghost use Rattle.definition.specs.Classes.{isToken, treated as treatedAs, isTrivia, isObjectKey, isLit, isPathComponent, isStmtRecovering, isPat, isExprWith, isRange, kindIsCallable, isUnary, isUsePart, isUsePath, isPatOrRest, isSelectArm, isBlockEnd};
+ghost use Rattle.definition.specs.Classes.{glues as gluing, allows as allowing, isToken, treated as treatedAs, isTrivia, isObjectKey, isLit, isPathComponent, isStmtRecovering, isPat, isExprWith, isRange, kindIsCallable, isUnary, isUsePart, isUsePath, isPatOrRest, isSelectArm, isBlockEnd};
 ghost use Rattle.kinds.specs.Sets.{hasBit};
 use super::*;
+
+// Whether k is a, with b glued to it.
+pub fn glues(a: u8, b: u8, k: u8, g: u8) -> bool
+    ensures { λ r. ⌜ r ≡ gluing a b k g ⌝ }
+{
+    (k == a) & (g == b)
+}
+
+// Whether k is j, and the mode allows it.
+pub fn allows(mode: bool, j: u8, k: u8) -> bool
+    ensures { λ r. ⌜ r ≡ allowing mode j k ⌝ }
+{
+    (k == j) & mode
+}
 
 // A token's kind, assigned or not.
 pub fn is_token(k: u8) -> bool

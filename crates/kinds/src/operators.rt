@@ -4,7 +4,7 @@ ghost use mathlib.Core.Bool.{cond, _&&_};
 ghost use Prim.Native.Nat.{_≤_};
 ghost use lib.Dec.{eqb};
 ghost use Rattle.definition.specs.Kinds.{K-is, K-not, K-dash, K->>=};
-ghost use Rattle.definition.specs.Operators.{associative, isNone, isTighter, clashes as clashing};
+ghost use Rattle.definition.specs.Operators.{associative, isNone, isBelow, isTighter, clashes as clashing};
 ghost use Rattle.kinds.specs.Ops.{opOf, Binds, Looked};
 use super::DASH;
 use super::GT_GT_EQ;
@@ -61,6 +61,13 @@ pub fn is_none(op: Op) -> bool
     ensures { λ r. ⌜ r ≡ isNone (opOf op) ⌝ }
 {
     op.binding == 0
+}
+
+// Whether it is none, or binds less than `least`.
+pub fn is_below(least: u8, op: Op) -> bool
+    ensures { λ r. ⌜ r ≡ isBelow least (opOf op) ⌝ }
+{
+    (op.binding == 0) | (op.binding < least)
 }
 
 // Whether operators of a binding may stand side by side without parentheses.

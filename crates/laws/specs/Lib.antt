@@ -5,3 +5,4 @@ pub mod Sizes
 pub mod Looking
 pub mod Moves
 pub mod Known
+pub mod Progress

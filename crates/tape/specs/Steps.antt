@@ -16,7 +16,7 @@ use Rattle.definition.specs.Parse.{run}
 use Rattle.laws.specs.Kept.{After}
 use Rattle.laws.specs.Unroll.{unroll}
 use Rattle.laws.specs.Sizes.{Went, went, Based, based-now}
-use Rattle.laws.specs.Looking.{skipped, seen}
+use Rattle.laws.specs.Looking.{skipped, skipped-le, seen}
 use Rattle.laws.specs.Moves.{bump-end}
 use Rattle.tape.specs.View.{inOf, stateOf, rowsIn, pickOut, outOf, Ready, Marked, Step, Ran}
 use Rattle.tape.specs.Rows.{length-rows}
@@ -196,6 +196,20 @@ module _ {ks ls : List ℕ} {m : ℕ} where
         len = refl;
         left = l;
       }
+
+-- the tape that `refuse` makes
+abbrev pub refusing : ℕ → ℕ → Tape → Tape
+refusing n pl t = record { at = t .at; next = t .next; second = t .second; byte = t .byte; rows = t .rows; left = t .left; no = n; place = pl; ans = 0 }
+
+pub refuses : {A : Type 0} {m n pl : ℕ} {a : A} {t r : Tape} {ks ls tab : List ℕ} → r ≡ refusing n pl t → (n ≡ 0 → ⊥) → Step m (stop n pl) a t r ks ls tab tab
+refuses e z = halt (ap (λ (x : Tape). x .no) e) (ap (λ (x : Tape). x .place) e) (ap (λ (x : Tape). x .left) e) z
+
+pub refused-tape : {x r : Tape} → r ≡ x → (x .no ≡ 0 → ⊥) → r .no ≡ 0 → ⊥
+refused-tape e z y = z (sym (ap (λ (x : Tape). x .no) e) ∙ y)
+
+-- a place is small
+pub here-few : {t : Tape} {ks ls tab : List ℕ} → Ready t ks ls tab → t .next ≤ 65535
+here-few {t} {ks} g = omega (arith, g .looks .next, skipped-le ks (t .at) (g .looks .end), g .looks .few)
 
 -- ## Scopes
 

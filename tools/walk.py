@@ -1,0 +1,588 @@
+#!/usr/bin/env python3
+"""walk.py CRATE [FUNCTION..]: writes the proofs of a crate's rules.
+
+A rule's code and its program in crates/definition/specs/Grammar.antt take the same steps in the same order. So a proof is read off the two:
+the program is walked along the places of the code on the way to each need (`rt dev CRATE --generated` lists them), and each step gives one law
+of crates/tape/specs/Steps.antt. docs/CONTRIBUTING.md says how code has to be written for that, and what the words in CRATE's words file mean.
+
+    a call that goes on       both W go REST        a look           look / touch / spot
+    a call that is refused    cut W no              a test of it     ask / ask-glued / ask-second
+    a test of the program     if-yes / if-no        a checkpoint     scoped / unscoped
+    the end                   nothing / answered    a refusal        refuses
+    a loop                    inv-end (last ..), inv-end (last-cut ..), inv-again
+
+The checker judges what is written; a rule that this script cannot walk is proved by hand and named under `by-hand` in the words file.
+"""
+import os
+import re
+import subprocess
+import sys
+import tempfile
+
+sys.path.insert(0, os.path.dirname(os.path.abspath(__file__)))
+import programs
+
+ROOT = os.getcwd()
+GRAMMAR = 'crates/definition/specs/Grammar.antt'
+NUMBER_TEST = re.compile(r'as-values .*\)((?: \.1){6}) \.0\) 0( → ⊥)?$')
+LOOKS = ('peek', 'glued', 'peek-second')
+WRAPS = {'take-if': 'ends', 'take-while': 'ends'}
+
+
+# ## The code's contracts
+
+class Function:
+    """A function's contract: what it asks, the program it runs, its answer, and the mark it closes over."""
+
+    def __init__(self, crate, module, name, requires, ensures, aliases):
+        self.crate, self.module, self.name, self.key = crate, module, name, name.replace('_', '-')
+        self.asks = [a.strip() for a in split(requires, '×')] if requires else []
+        m = re.match(r'(Ran|Step (\S+)) (.*)', ensures)
+        self.rule = bool(m)
+        self.mark = m.group(2) if m else None
+        self.program = self.answer = None
+        if m:
+            parts = split(m.group(3), ' ')
+            self.program, self.answer = parts[0], parts[1]
+            head = self.program.strip('()').split()
+            self.head, self.args = aliases.get(head[0], head[0]), head[1:]
+
+    def ask(self, word):
+        """Where a part of what is asked stands: '' for the whole, ' .0', ' .1' .."""
+        for n, a in enumerate(self.asks):
+            if a.startswith(word):
+                return '' if len(self.asks) == 1 else f' .{n}'
+        return None
+
+
+def split(text, sep):
+    """The parts of a text between separators that stand in no parentheses."""
+    out, depth, cur = [], 0, ''
+    for ch in text:
+        depth += {'(': 1, ')': -1}.get(ch, 0)
+        if ch == sep and depth == 0:
+            out.append(cur)
+            cur = ''
+        else:
+            cur += ch
+    return [x for x in out + [cur] if x.strip()]
+
+
+def contracts(crate):
+    out = {}
+    folder = f'crates/{crate}/src'
+    for file in sorted(os.listdir(folder)):
+        text = open(f'{folder}/{file}').read()
+        module = '' if file == 'lib.rt' else file[:-3]
+        aliases = {b: a for a, b in re.findall(r'(\S+) as (\w+)', text)}
+        impl = 'Tape' if crate == 'tape' else ''
+        for m in re.finditer(r'fn (\w+)\(([^)]*)\)[^{]*?\n(?:\s+requires \{ ⌜ (.*?) ⌝ \}\n)?\s+ensures \{ λ \w+\. ⌜ (.*?) ⌝ \}', text):
+            name, params, requires, ensures = m.groups()
+            f = Function(crate, module, name, requires, ensures, aliases)
+            f.impl = impl if 'self' in params else ''
+            out[f.key] = f
+    return out
+
+
+# ## The places of a function
+
+class Places:
+    def __init__(self, path):
+        text = open(path).read()
+        self.before, self.fields, self.need, self.own = {}, {}, {}, {}
+        cur = None
+        lines = text.split('\n')
+        for n, l in enumerate(lines):
+            m = re.match(r'\s*pub record (\S+)', l)
+            if m:
+                cur = m.group(1)
+            m = re.match(r'\s*pub (\S+) : (\S+)', l)
+            if m and cur and not cur.endswith('·own'):
+                if m.group(1) == 'before':
+                    self.before[cur] = m.group(2)
+                else:
+                    self.fields.setdefault(cur, []).append(m.group(1))
+            m = re.match(r'\s*(?:abbrev )?(?:pub )?Need-(\S+) =', l)
+            if m:
+                for k in range(n, n + 4):
+                    q = re.search(r'\(c : (\S+?)\)', lines[k])
+                    if q:
+                        self.need[m.group(1)] = q.group(1)
+                        break
+        for m in re.finditer(r'pub record (\S+)·own : Type 0 where\n(.*?)\n\n', text, re.S):
+            self.own[m.group(1)] = ' '.join(m.group(2).split())
+
+    def way(self, place):
+        """The places up to this one, from the function's start."""
+        out = []
+        while place:
+            out.append(place)
+            place = self.before.get(place)
+        return out[::-1]
+
+
+class Element:
+    """A step of the code on the way: a call, a look, a test, a loop, the start."""
+
+    def __init__(self, kind, name, term, place):
+        self.kind, self.name, self.term, self.place = kind, name, term, place
+
+
+class Stuck(Exception):
+    pass
+
+
+class Walk:
+    def __init__(self, fn, places, known, defs, words):
+        self.fn, self.places, self.known, self.defs, self.words = fn, places, known, defs, words
+        self.tree = defs[fn.head][1]
+
+    # ### The steps on the way to a place
+
+    def elements(self, place):
+        way = self.places.way(place)
+        out = []
+        for n, p in enumerate(way):
+            at = 'c' + ' .before' * (len(way) - 1 - n)
+            for f in self.places.fields.get(p, []):
+                e = self.element(f, f'{at} .{f}', p)
+                if e:
+                    out.append(e)
+        return out
+
+    def element(self, field, term, place):
+        if re.fullmatch(r'if\d+', field):
+            own = self.places.own[place]
+            taken = place.startswith('Then') or '-Then' in place
+            if NUMBER_TEST.search(own):
+                return Element('no' if taken else 'go', field, term, place)
+            return Element('if', field, term, place)
+        base = re.sub(r'\d+$', '', field)
+        if base == 'pre':
+            return Element('pre', base, term, place)
+        if base == 'loop':
+            return Element('loop', base, term, place)
+        if base in LOOKS:
+            return Element('look', base, term, place)
+        if base == 'refuse':
+            return Element('refuse', base, term, place)
+        f = self.known.get(base)
+        if f and f.rule:
+            return Element('call', base, term, place)
+        if f:
+            return Element('value', base, term, place)
+        return None
+
+    # ### What holds at a point of the way
+
+    def pre(self, e, word):
+        part = self.fn.ask(word)
+        if part is None:
+            raise Stuck(f'nothing asked of {word}')
+        cycle = ' .1' if self.words.get('cycle') else ''
+        return f'{e.term}{cycle}{part}'
+
+    def ready(self, els):
+        """The tape is ready for the next call."""
+        go = None
+        for e in reversed(els):
+            if e.kind == 'go':
+                go = e
+            if e.kind == 'call':
+                f = self.known[e.name]
+                under = '' if f.mark else ' .under 0'
+                return f'{e.term} .ensures{under} .ready ({go.term} .left)'
+            if e.kind == 'loop':
+                return f'{e.term} .inv .ready'
+            if e.kind == 'pre':
+                return self.pre(e, 'Ready')
+        raise Stuck('no start')
+
+    def marked(self, els):
+        """The mark of the scope that the way is in, or of the caller, is one."""
+        start, term = 0, None
+        if self.tree[0] == 'scope':
+            for n, e in enumerate(els):
+                if e.kind == 'call' and e.name == 'flush-ws':
+                    start, term = n + 1, 'marked-now'
+                    break
+            start += 1
+        else:
+            term = self.pre(els[0], 'Marked')
+            start = 1
+        for n in range(start, len(els)):
+            e = els[n]
+            if e.kind == 'call':
+                term = f'step-marked ({self.step_of(e)}) ({els[n + 1].term} .left) ({term})'
+            if e.kind == 'loop':
+                term = f'{e.term} .inv .under _ .marked ({term})'
+        return term
+
+    def step_of(self, e):
+        return f'{e.term} .ensures' if self.known[e.name].mark else f'{e.term} .ensures .under _'
+
+    def lengths(self, els):
+        xs = []
+        for e in els:
+            if e.kind == 'call':
+                xs.insert(0, f"{e.term} .ensures{'' if self.known[e.name].mark else ' .under 0'} .len")
+            if e.kind == 'loop':
+                xs.insert(0, f'{e.term} .inv .under 0 .len')
+        return ' ∙ ('.join(xs) + ')' * (len(xs) - 1) if xs else 'refl'
+
+    def lefts(self, els):
+        """That as many entries are left as at the start, of each call on the way."""
+        return [f"{e.term} .ensures{'' if self.known[e.name].mark else ' .under 0'} .left" for e in els if e.kind == 'call'] + \
+            [f'{e.term} .inv .under 0 .left' for e in els if e.kind == 'loop']
+
+    # ### The walk: a term for Step _ P _ .., from element i on; and where it ends
+
+    def test(self, els, i):
+        e = els[i]
+        own = self.places.own[e.place]
+        side = 'taken' if re.search(r'\bpub taken\b', own) else 'left'
+        fact = f'{e.term} .{side}'
+        m = re.search(r"Bool'\.(true|false)", own)
+        if m:
+            law = 'if-yes' if m.group(1) == 'true' else 'if-no'
+            value = els[i - 1] if els[i - 1].kind == 'value' else None
+            return law, f'(sym ({value.term} .ensures) ∙ {fact})' if value else f'({fact})'
+        if '→ ⊥' in own:
+            return 'if-no', f'(ne-eqb _ _ ({fact}))'
+        return 'if-yes', f'(eq-eqb _ _ ({fact}))'
+
+    def skip(self, els, i, kinds):
+        while i < len(els) and els[i].kind not in kinds:
+            if els[i].kind not in ('value',):
+                raise Stuck(f'{kinds} expected, found {els[i].kind} {els[i].name}')
+            i += 1
+        if i >= len(els):
+            raise Stuck(f'{kinds} expected at the end')
+        return i
+
+    def call(self, p, els, i):
+        """A call's own step."""
+        i = self.skip(els, i, ('call',))
+        term = self.step_of(els[i])
+        wrap = WRAPS.get(p[1])
+        return (f'{wrap} ({term})' if wrap else term), i + 1
+
+    def walk(self, p, els, i, top=False):
+        """Returns the term, the next element, and how the way ended: 'end', 'no' (refused), or 'inl' / 'inr' of a turn."""
+        kind = p[0]
+        if kind == 'ret':
+            return self.ending(p, els, i)
+        if kind == 'seq':
+            return self.sequence(p, els, i)
+        if kind == 'call':
+            term, j = self.call(p, els, i)
+            if j < len(els) and els[j].kind == 'no':
+                return f'refusal ({term}) ({els[j].term} .taken)', j + 1, 'no'
+            return term, j, 'end'
+        if kind == 'test':
+            j = self.skip(els, i, ('if',))
+            law, fact = self.test(els, j)
+            term, k, how = self.walk(p[2] if law == 'if-yes' else p[3], els, j + 1)
+            return f'{law} {fact} ({term})', k, how
+        if kind == 'scope':
+            return self.scope(p, els, i, top)
+        if kind == 'stop':
+            return self.stop(p, els, i)
+        if kind in ('while', 'loop'):
+            return self.loop(p, els, i)
+        raise Stuck(f'cannot walk {p}')
+
+    def ending(self, p, els, i):
+        how = 'inl' if p[1].startswith('(inl') else 'inr' if p[1].startswith('(inr') else 'end'
+        answers = how == 'end' and self.fn.answer != 'tt' or how == 'inl' and self.words.get('answers')
+        # what else the code computed on the way here does not matter
+        while i < len(els) and els[i].kind == 'value':
+            i += 1
+        return f"{'answered' if answers else 'nothing'} ({self.ready(els[:i])})", i, how
+
+    def sequence(self, p, els, i):
+        _, binder, first, rest = p
+        if first[0] == 'look':
+            return self.look(first, rest, els, i)
+        if first[0] == 'ask':
+            return self.ask(first, rest, els, i)
+        term, j, how = self.first(first, els, i)
+        if how == 'no':
+            return f'cut ({term[0]}) ({term[1]})', j, 'no'
+        if j < len(els) and els[j].kind == 'go':
+            more, k, how = self.walk(rest, els, j + 1)
+            return f'both ({term}) ({els[j].term} .left) ({more})', k, how
+        if first[0] in ('while', 'loop', 'test'):
+            more, k, how = self.walk(rest, els, j)
+            return f'both ({term}) ({self.ready(els[:j])} .going) ({more})', k, how
+        if rest[0] == 'ret' and j >= len(els):
+            return f'ends ({term})', j, 'end'
+        raise Stuck(f'no test after {first}')
+
+    def first(self, p, els, i):
+        """The first part of a sequence: its step, or that step and the refusal's test."""
+        if p[0] == 'call':
+            term, j = self.call(p, els, i)
+            if j < len(els) and els[j].kind == 'no':
+                return (term, f'{els[j].term} .taken'), j + 1, 'no'
+            return term, j, 'end'
+        term, j, how = self.walk(p, els, i)
+        if how == 'no':
+            return (term, self.refused(els)), j, 'no'
+        return term, j, 'end'
+
+    def refused(self, els):
+        """That the last step was refused."""
+        e = els[-1]
+        if e.kind == 'no':
+            return f'{e.term} .taken'
+        return f'refused-tape ({e.term} .ensures) (λ z. omega arith)'
+
+    def look(self, p, rest, els, i):
+        if p[1] == 'here':
+            term, j, how = self.walk(rest, els, i)
+            return f'spot ({self.ready(els[:i])} .looks .next) ({term})', j, how
+        law = {'nth0': 'look', 'glued': 'touch'}[p[1]]
+        i = self.skip(els, i, ('look',))
+        term, j, how = self.walk(rest, els, i + 1)
+        return f'{law} ({els[i].term} .ensures) ({term})', j, how
+
+    def ask(self, p, rest, els, i):
+        i = self.skip(els, i, ('look',))
+        if p[1] == 1:
+            term, j, how = self.walk(rest, els, i + 1)
+            return f'ask ({els[i].term} .ensures) ({term})', j, how
+        second = self.skip(els, i + 1, ('look',))
+        law = 'ask-glued' if p[1] == 'g' else 'ask-second'
+        term, j, how = self.walk(rest, els, second + 1)
+        return f'{law} ({els[i].term} .ensures) ({els[second].term} .ensures) ({term})', j, how
+
+    def scope(self, p, els, i, top):
+        under = '' if top else ' .under _'
+        i = self.skip(els, i, ('call',))
+        flush, test = els[i], els[i + 1]
+        if test.kind == 'no':
+            return f'unscoped ({flush.term} .ensures) ({test.term} .taken){under}', i + 2, 'no'
+        term, j, how = self.walk(p[1], els, i + 2)
+        return f'scoped ({flush.term} .ensures) ({test.term} .left) ({term}){under}', j, how
+
+    def stop(self, p, els, i):
+        i = self.skip(els, i, ('refuse',))
+        term = f'refuses ({els[i].term} .ensures) (λ z. omega arith)'
+        if p[2] is None:
+            term = f'spot ({self.ready(els[:i])} .looks .next) ({term})'
+        return term, i + 1, 'no'
+
+    def turn(self, p):
+        if p[0] == 'while':
+            return ('seq', 'b', p[1], ('test', 'b', ('seq', None, p[2], ('ret', '(inl tt)')), ('ret', '(inr tt)')))
+        return self.defs[p[1]][1]
+
+    def loop(self, p, els, i):
+        i = self.skip(els, i, ('loop',))
+        inv = f'{els[i].term} .inv .under _'
+        term, j, how = self.walk(self.turn(p), els, i + 1)
+        if how == 'no':
+            return f'inv-end ({inv}) (last-cut ({term}) ({self.refused(els)}))', j, 'no'
+        if how == 'inr':
+            return f'inv-end ({inv}) (last ({term}) ({self.ready(els[:j])} .going))', j, 'end'
+        raise Stuck(f'a turn that ends in {how}')
+
+    # ### The needs
+
+    def requires(self, name, els):
+        f = self.known.get(name)
+        if name in LOOKS:
+            return f'({self.ready(els)}) .looks'
+        if name == 'refuse':
+            return f'here-few ({self.ready(els)})'
+        if not f or not f.rule:
+            return 'search needs'
+        parts = []
+        for a in f.asks:
+            if a.startswith('Ready'):
+                parts.append(self.ready(els))
+            elif a.startswith('Marked'):
+                parts.append(self.marked(els))
+            else:
+                parts.append('omega arith')
+        if self.words.get('cycle') and name in self.words['cycle']:
+            inner = parts[0] if len(parts) == 1 else '(' + ', '.join(parts) + ')'
+            facts = ', '.join(['arith'] + self.lefts(els))
+            parts = [f'omega ({facts})', inner]
+        return parts[0] if len(parts) == 1 else '(' + ', '.join(parts) + ')'
+
+    def answer(self, need):
+        els = self.elements(self.places.need[need])
+        base = re.sub(r'-\d+$', '', need)
+        if base.endswith('-requires'):
+            return self.requires(base[:-9], els)
+        if base == 'same-length':
+            return self.lengths(els)
+        if base == 'returns':
+            start = next(n for n, e in enumerate(els) if e.kind == 'pre') + 1
+            term, j, how = self.walk(self.tree, els, start, True)
+            if self.tree[0] == 'scope' or self.fn.mark:
+                return term
+            return f'record {{ under = λ m. {term} }}'
+        if base == 'loop-holds':
+            return f'record {{ ready = {self.ready(els)}; under = λ m. inv-start }}'
+        if base in ('loop-less', 'loop-again'):
+            return self.again(base, els)
+        return 'search needs'
+
+    def again(self, base, els):
+        n = max(k for k, e in enumerate(els) if e.kind == 'loop')
+        move = self.expand(self.words['move'], els)
+        if base == 'loop-less':
+            return f'burns ({self.ready(els)}) ({move})'
+        go = [e for e in els if e.kind == 'go'][-1]
+        loop = self.find_loop(self.tree)
+        term, j, how = self.walk(self.turn(loop), els, n + 1)
+        return f'record {{ ready = {self.ready(els)}; under = λ m. inv-again ({els[n].term} .inv .under m) ({term}) ({go.term} .left) ({move}) }}'
+
+    def find_loop(self, p):
+        if p[0] in ('while', 'loop'):
+            return p
+        for x in p[1:]:
+            if isinstance(x, tuple):
+                q = self.find_loop(x)
+                if q:
+                    return q
+        return None
+
+    def expand(self, text, els):
+        """`@x` in the words stands for the last element of that name."""
+        def one(m):
+            for e in reversed(els):
+                if e.name == m.group(1):
+                    return e.term
+            raise Stuck(f'no {m.group(1)} on the way')
+        return re.sub(r'@([a-z][a-z0-9-]*)', one, text.replace('@ready', self.ready(els[:self.last_loop(els) + 1])))
+
+    def last_loop(self, els):
+        return max([k for k, e in enumerate(els) if e.kind == 'loop'], default=len(els) - 1)
+
+
+# ## Files
+
+def fill(path, walk, prefix, head):
+    text = open(path).read()
+    unfolds = ' '.join(walk.words.get('unfold', [walk.fn.head]))
+    for need in walk.places.need:
+        try:
+            term = walk.words.get('needs', {}).get(need)
+            term = walk.expand(term, walk.elements(walk.places.need[need])) if term else walk.answer(need)
+        except Stuck as e:
+            print(f'{walk.fn.name} {need}: {e}')
+            continue
+        base = re.sub(r'-\d+$', '', need)
+        line = f'unfolding {unfolds}\n' if base in ('returns', 'loop-again', 'loop-holds') else ''
+        pat = re.compile(r'^(' + re.escape(prefix + need) + r' : .*\n)(?:unfolding .*\n)?(' + re.escape(prefix + need) + r'(?: t)? c(?: κs)?) =(?:.*\n)(?:    .*\n)*', re.M)
+        if not pat.search(text):
+            print(f'{walk.fn.name}: no place for {prefix + need}')
+            continue
+        text = pat.sub(lambda m: f'{m.group(1)}{line}{m.group(2)} =\n    {term}\n', text)
+    inv = walk.words.get('inv')
+    if inv:
+        text = re.sub(r'^(' + re.escape(prefix) + r'Inv-loop .*) =.*$', lambda m: f'{m.group(1)} = {inv}', text, flags=re.M)
+        text = re.sub(r'^(' + re.escape(prefix) + r'μ-loop .*) =.*$', lambda m: f'{m.group(1)} = fuel t kinds', text, flags=re.M)
+    if head and head not in text:
+        text = head + text
+    open(path, 'w').write(text)
+
+
+def generated(crate):
+    folder = tempfile.mkdtemp()
+    subprocess.run(['rt', 'dev', crate, '--generated', folder], stdout=subprocess.DEVNULL, stderr=subprocess.DEVNULL)
+    return folder
+
+
+def skeletons(crate):
+    """Writes the skeleton of each proof that is not there yet, and says what the check said."""
+    out = subprocess.run(['rt', 'dev', crate, '--allow-holes'], stdout=subprocess.PIPE, stderr=subprocess.STDOUT, text=True,
+                         env=dict(os.environ, RT_CUT='0')).stdout
+    lines, n, made = out.split('\n'), 0, 0
+    while n < len(lines):
+        m = re.match(r'help: write (\S+) with these lines', lines[n])
+        n += 1
+        if not m:
+            continue
+        body = []
+        while n < len(lines) and lines[n].startswith('    '):
+            body.append(lines[n][4:])
+            n += 1
+        if not os.path.exists(m.group(1)):
+            os.makedirs(os.path.dirname(m.group(1)), exist_ok=True)
+            open(m.group(1), 'w').write('\n'.join(body) + '\n')
+            made += 1
+    return out, made
+
+
+HEAD = '''-- Written by tools/walk.py from the code and its program; docs/CONTRIBUTING.md says how.
+'''
+
+
+def uses(crate, fn, words):
+    """The names that any walk may cite."""
+    gram = sorted(set(words.get('unfold', [fn.head]) + ['while-turn'] + words.get('names', [])))
+    return HEAD + f'''use Prim.Native.Nat.{{zero, suc, _+_, _-_, _*_, _≤_, _<_}}
+use mathlib.Core.Path.{{_≡_, refl, sym, ap, _∙_}}
+use mathlib.Core.Bool.{{Bool, true, false}}
+use mathlib.Core.Logic.{{inl, inr}}
+use native.Mathlib.Omega.{{arith}}
+use borrow.Author.Needs.{{needs}}
+use borrow.Author.Tests.{{eq-eqb, ne-eqb}}
+use Rattle.definition.specs.Prog.{{repeat}}
+use Rattle.definition.specs.Grammar.{{{', '.join(gram)}}}
+use Rattle.tape.specs.View.{{Step, Ran, said}}
+use Rattle.tape.specs.Steps.{{Loop, Onward, fuel, burns, here-few, marked-now, step-marked, both, cut, refusal, ends, if-yes, if-no, look, touch, spot, ask, ask-glued, ask-second, scoped, unscoped, nothing, answered, refuses, refused-tape, inv-start, inv-again, inv-end, last, last-cut}}
+''' + ''.join(l + '\n' for l in words.get('use', []))
+
+
+def main():
+    crate, only = sys.argv[1], sys.argv[2:]
+    known = {}
+    for c in ('kinds', 'tape', 'pieces', 'grammar'):
+        if os.path.isdir(f'crates/{c}/src'):
+            known.update(contracts(c))
+    defs = programs.read(GRAMMAR)
+    table = {}
+    words_file = f'tools/words/{crate}.py'
+    if os.path.exists(words_file):
+        exec(open(words_file).read(), table)
+    words = table.get('WORDS', {})
+    # a caller's places are known once its callees are proved: so in rounds, until nothing is new
+    done = set()
+    while True:
+        skeletons(crate)
+        folder = generated(crate)
+        before = len(done)
+        for f in known.values():
+            if f.crate != crate or not f.rule or f.key in done or only and f.name not in only:
+                continue
+            w = words.get(f.key, {})
+            if w.get('by-hand'):
+                done.add(f.key)
+                continue
+            sub = '/'.join(x for x in (f.module, f.impl, f.name) if x)
+            proof = f'crates/{crate}/proofs/{sub}/Proof.antt'
+            lts = f'{folder}/Rattle.{crate}.proofs/proofs/{sub}/Lts.antt'
+            if not os.path.exists(proof) or not os.path.exists(lts):
+                continue
+            if f.head not in defs:
+                print(f'{f.name}: no program {f.head}')
+                done.add(f.key)
+                continue
+            fill(proof, Walk(f, Places(lts), known, defs, w), '', uses(crate, f, w))
+            done.add(f.key)
+        if len(done) == before:
+            break
+    out, _ = skeletons(crate)
+    for l in out.split('\n'):
+        if re.match(r'(fn .*(not proved|no proof|hole))|.*error:', l):
+            print(l[:400])
+
+
+if __name__ == '__main__':
+    main()
