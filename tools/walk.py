@@ -27,6 +27,13 @@ GRAMMAR = 'crates/definition/specs/Grammar.antt'
 NUMBER_TEST = re.compile(r'as-values .*\)((?: \.1){6}) \.0\) 0( → ⊥)?$')
 LOOKS = ('peek', 'glued', 'peek-second')
 WRAPS = {'take-if': 'ends', 'take-while': 'ends'}
+# the laws of crates/laws/specs/Progress.antt that ask nothing, a class of the next kind, a class of it with the one glued to it; the others ask for a token
+FURTHER_ANY = {'stmt', 'expr', 'outer-expr-with', 'expr-with', 'separated'}
+FURTHER_SAW = {'path': 'isPathComponent', 'generic-path': 'isPathComponent'}
+FURTHER_GLUED = {'pat': 'isPat', 'pat-item': 'isPatOrRest', 'pat-or-rest': 'isPatOrRest', 'match-arm': 'isPat', 'select-arm': 'isSelectArm'}
+# a kind of a class is no Eof
+SOME = {'is-path-component': 'path-component-some _', 'is-use-path': 'use-path-some _', 'is-object-key': 'object-key-some _',
+        'glues': 'glues-some _ _ _ _ refl', 'is-use-part': 'not-eof isUsePart (at-eof true true 0 .use-part)'}
 
 
 # ## The code's contracts
@@ -74,7 +81,7 @@ def contracts(crate):
     for file in sorted(os.listdir(folder)):
         text = open(f'{folder}/{file}').read()
         module = '' if file == 'lib.rt' else file[:-3]
-        aliases = {b: a for a, b in re.findall(r'(\S+) as (\w+)', text)}
+        aliases = {b: a for a, b in re.findall(r'([^\s{,]+) as (\w+)', text)}
         impl = 'Tape' if crate == 'tape' else ''
         for m in re.finditer(r'fn (\w+)\(([^)]*)\)[^{]*?\n(?:\s+requires \{ ⌜ (.*?) ⌝ \}\n)?\s+ensures \{ λ \w+\. ⌜ (.*?) ⌝ \}', text):
             name, params, requires, ensures = m.groups()
@@ -135,7 +142,14 @@ class Stuck(Exception):
 class Walk:
     def __init__(self, fn, places, known, defs, words):
         self.fn, self.places, self.known, self.defs, self.words = fn, places, known, defs, words
-        self.tree = defs[fn.head][1]
+        self.coded = {f.head for f in known.values() if f.rule} | {'bump', 'flush', 'close'} | set(WRAPS)
+        self.tree = self.inlined(defs[fn.head][1])
+
+    def inlined(self, p):
+        """A program that no function runs stands where it is used."""
+        if p[0] == 'call' and p[1] not in self.coded and p[1] in self.defs:
+            return self.inlined(self.defs[p[1]][1])
+        return tuple(self.inlined(x) if isinstance(x, tuple) else x for x in p)
 
     # ### The steps on the way to a place
 
@@ -298,6 +312,10 @@ class Walk:
         # what else the code computed on the way here does not matter
         while i < len(els) and els[i].kind == 'value':
             i += 1
+        # a yes or no that the code tests, to put it down
+        if answers and i < len(els) and els[i].kind == 'if':
+            side = 'taken' if re.search(r'\bpub taken\b', self.places.own[els[i].place]) else 'left'
+            return f'answered-as ({els[i].term} .{side}) ({self.ready(els[:i])})', i + 1, how
         return f"{'answered' if answers else 'nothing'} ({self.ready(els[:i])})", i, how
 
     def sequence(self, p, els, i):
@@ -376,7 +394,7 @@ class Walk:
     def turn(self, p):
         if p[0] == 'while':
             return ('seq', 'b', p[1], ('test', 'b', ('seq', None, p[2], ('ret', '(inl tt)')), ('ret', '(inr tt)')))
-        return self.defs[p[1]][1]
+        return self.inlined(self.defs[p[1]][1])
 
     def loop(self, p, els, i):
         i = self.skip(els, i, ('loop',))
@@ -401,14 +419,14 @@ class Walk:
         parts = []
         for a in f.asks:
             if a.startswith('Ready'):
-                parts.append(self.ready(els))
+                parts.append(f'deep ({self.ready(els)})' if self.counted() else self.ready(els))
             elif a.startswith('Marked'):
                 parts.append(self.marked(els))
             else:
                 parts.append('omega arith')
         if self.words.get('cycle') and name in self.words['cycle']:
             inner = parts[0] if len(parts) == 1 else '(' + ', '.join(parts) + ')'
-            facts = ', '.join(['arith'] + self.lefts(els))
+            facts = ', '.join(['arith', f'{els[0].term} .0'] + [f'{e.term} .left' for e in els if e.kind == 'if' and self.counted()] + self.lefts(els))
             parts = [f'omega ({facts})', inner]
         return parts[0] if len(parts) == 1 else '(' + ', '.join(parts) + ')'
 
@@ -419,6 +437,8 @@ class Walk:
             return self.requires(base[:-9], els)
         if base == 'same-length':
             return self.lengths(els)
+        if base == 'returns' and self.counted():
+            return self.entry(els)
         if base == 'returns':
             start = next(n for n, e in enumerate(els) if e.kind == 'pre') + 1
             term, j, how = self.walk(self.tree, els, start, True)
@@ -433,7 +453,7 @@ class Walk:
 
     def again(self, base, els):
         n = max(k for k, e in enumerate(els) if e.kind == 'loop')
-        move = self.expand(self.words['move'], els)
+        move = self.expand(self.words['move'], els) if 'move' in self.words else self.move(els)
         if base == 'loop-less':
             return f'burns ({self.ready(els)}) ({move})'
         go = [e for e in els if e.kind == 'go'][-1]
@@ -460,15 +480,90 @@ class Walk:
             raise Stuck(f'no {m.group(1)} on the way')
         return re.sub(r'@([a-z][a-z0-9-]*)', one, text.replace('@ready', self.ready(els[:self.last_loop(els) + 1])))
 
+    def unfolds(self):
+        if 'unfold' in self.words:
+            return self.words['unfold']
+        loop = self.find_loop(self.tree)
+        more = [] if not loop else ['while-turn'] if loop[0] == 'while' else [loop[1]]
+        return [self.fn.head] + more + (['grammar'] if self.counted() else [])
+
+    def invariant(self):
+        if 'inv' in self.words:
+            return self.words['inv']
+        if self.tree[0] == 'while' or self.tree[0] == 'loop' and self.tree[3] == 'tt':
+            program = ' '.join([self.fn.head] + self.fn.args)
+            return f'Loop ({program}) ({program}) t₀ t kinds lens table₀ table'
+        return None
+
+    # ### A counted rule: its depth is tested, and its body has one entry less
+
+    def counted(self):
+        return self.tree[0] == 'seq' and self.tree[2][0] == 'call' and self.tree[2][1] == 'enter'
+
+    def entry(self, els):
+        test = next(e for e in els if e.kind == 'if')
+        ready = self.pre(els[0], 'Ready')
+        if els[-1].kind == 'refuse':
+            return f'record {{ under = λ m. ends {{a = 0}} (barred ({ready}) ({test.term} .taken) ({els[-1].term} .ensures)) }}'
+        body = next(e for e in els if e.kind == 'call')
+        return f'record {{ under = λ m. ends (entered ({test.term} .left) (ends ({body.term} .ensures .under _))) }}'
+
+    # ### Progress: the first call of a turn comes further, since of what was seen
+
+    def move(self, els):
+        n = self.last_loop(els)
+        turn = els[n + 1:]
+        calls = [k for k, e in enumerate(turn) if e.kind == 'call']
+        first = turn[calls[0]]
+        go = turn[calls[0] + 1]
+        head = self.known[first.name].head
+        looks = [e for e in turn[:calls[0]] if e.kind == 'look']
+        tests = [e for e in turn[:calls[0]] if e.kind == 'if']
+        step = f"({first.term} .ensures{'' if self.known[first.name].mark else ' .under 0'}) ({go.term} .left)"
+        if head in FURTHER_ANY:
+            term = f'goes-on {step} {head}-further'
+        else:
+            term = f'{self.because(head, step, looks, tests[-1], turn)} {head}-further'
+        for k in calls[1:]:
+            e = turn[k]
+            term = f"and-on ({term}) ({self.step_of(e).replace(' .under _', ' .under 0')}) ({turn[k + 1].term} .left)"
+        return term
+
+    def because(self, head, step, looks, test, turn):
+        """What was seen, as the law of progress asks for it."""
+        own = self.places.own[test.place]
+        saw = f'({looks[0].term} .ensures)'
+        if "Bool'." not in own:
+            return f'goes-some {step} {saw} (λ z. omega (arith, {test.term} .taken))'
+        value = turn[turn.index(test) - 1]
+        fact = f'(sym ({value.term} .ensures) ∙ {test.term} .taken)'
+        if head in FURTHER_SAW:
+            return f'goes-saw {step} {saw} {FURTHER_SAW[head]} {fact}'
+        if head in FURTHER_GLUED:
+            return f'goes-glued {step} {saw} ({looks[1].term} .ensures) {FURTHER_GLUED[head]} {fact}'
+        return f'goes-some {step} {saw} ({SOME[value.name]} {fact})'
+
+    def callees(self):
+        """The rules that the function's loop calls."""
+        if not self.find_loop(self.tree):
+            return []
+        out = set()
+        for need, place in self.places.need.items():
+            if need.startswith('loop-again'):
+                els = self.elements(place)
+                calls = [e.name for e in els[self.last_loop(els) + 1:] if e.kind == 'call']
+                out.add(calls[0])
+        return sorted(out)
+
     def last_loop(self, els):
         return max([k for k, e in enumerate(els) if e.kind == 'loop'], default=len(els) - 1)
 
 
 # ## Files
 
-def fill(path, walk, prefix, head):
+def fill(path, walk, prefix):
     text = open(path).read()
-    unfolds = ' '.join(walk.words.get('unfold', [walk.fn.head]))
+    unfolds = ' '.join(walk.unfolds())
     for need in walk.places.need:
         try:
             term = walk.words.get('needs', {}).get(need)
@@ -478,17 +573,15 @@ def fill(path, walk, prefix, head):
             continue
         base = re.sub(r'-\d+$', '', need)
         line = f'unfolding {unfolds}\n' if base in ('returns', 'loop-again', 'loop-holds') else ''
-        pat = re.compile(r'^(' + re.escape(prefix + need) + r' : .*\n)(?:unfolding .*\n)?(' + re.escape(prefix + need) + r'(?: t)? c(?: κs)?) =(?:.*\n)(?:    .*\n)*', re.M)
+        pat = re.compile(r'(?:^unfolding .*\n)?^(' + re.escape(prefix + need) + r'(?: t)? c(?: κs)?) =.*\n(?:    .*\n)*', re.M)
         if not pat.search(text):
             print(f'{walk.fn.name}: no place for {prefix + need}')
             continue
-        text = pat.sub(lambda m: f'{m.group(1)}{line}{m.group(2)} =\n    {term}\n', text)
-    inv = walk.words.get('inv')
+        text = pat.sub(lambda m: f'{line}{m.group(1)} =\n    {term}\n', text)
+    inv = walk.invariant()
     if inv:
         text = re.sub(r'^(' + re.escape(prefix) + r'Inv-loop .*) =.*$', lambda m: f'{m.group(1)} = {inv}', text, flags=re.M)
         text = re.sub(r'^(' + re.escape(prefix) + r'μ-loop .*) =.*$', lambda m: f'{m.group(1)} = fuel t kinds', text, flags=re.M)
-    if head and head not in text:
-        text = head + text
     open(path, 'w').write(text)
 
 
@@ -520,12 +613,15 @@ def skeletons(crate):
 
 
 HEAD = '''-- Written by tools/walk.py from the code and its program; docs/CONTRIBUTING.md says how.
+-- Assumes nothing.
 '''
 
 
-def uses(crate, fn, words):
+def uses(walks):
     """The names that any walk may cite."""
-    gram = sorted(set(words.get('unfold', [fn.head]) + ['while-turn'] + words.get('names', [])))
+    gram = sorted(set(n for w in walks for n in w.unfolds()))
+    more = sorted(set(l for w in walks for l in w.words.get('use', [])))
+    heads = sorted(set(w.known[e].head + '-further' for w in walks for e in w.callees()))
     return HEAD + f'''use Prim.Native.Nat.{{zero, suc, _+_, _-_, _*_, _≤_, _<_}}
 use mathlib.Core.Path.{{_≡_, refl, sym, ap, _∙_}}
 use mathlib.Core.Bool.{{Bool, true, false}}
@@ -533,11 +629,66 @@ use mathlib.Core.Logic.{{inl, inr}}
 use native.Mathlib.Omega.{{arith}}
 use borrow.Author.Needs.{{needs}}
 use borrow.Author.Tests.{{eq-eqb, ne-eqb}}
+use Rattle.definition.specs.Classes.{{isPathComponent, isPat, isPatOrRest, isUsePart, isSelectArm}}
 use Rattle.definition.specs.Prog.{{repeat}}
 use Rattle.definition.specs.Grammar.{{{', '.join(gram)}}}
+use Rattle.laws.specs.Progress.{{{', '.join(heads + ['path-component-some', 'use-path-some', 'object-key-some', 'glues-some'])}}}
+use Rattle.kinds.specs.Laws.{{not-eof, at-eof}}
 use Rattle.tape.specs.View.{{Step, Ran, said}}
-use Rattle.tape.specs.Steps.{{Loop, Onward, fuel, burns, here-few, marked-now, step-marked, both, cut, refusal, ends, if-yes, if-no, look, touch, spot, ask, ask-glued, ask-second, scoped, unscoped, nothing, answered, refuses, refused-tape, inv-start, inv-again, inv-end, last, last-cut}}
-''' + ''.join(l + '\n' for l in words.get('use', []))
+use Rattle.tape.specs.Steps.{{Loop, Onward, fuel, burns, here-few, marked-now, step-marked, both, cut, refusal, ends, if-yes, if-no, look, touch, spot, ask, ask-glued, ask-second, scoped, unscoped, nothing, answered, answered-as, refuses, refused-tape, inv-start, inv-again, inv-end, last, last-cut}}
+use Rattle.tape.specs.Counted.{{deep, entered, barred, goes-on, goes-some, goes-saw, goes-glued, and-on}}
+''' + ''.join(l + '\n' for l in more)
+
+
+# ## Cycles: members share one proof, and a number falls at each call
+
+def ranks(members, known):
+    """Above all members that it calls with as many entries left. A counted rule calls its body with one less."""
+    calls = {}
+    for k in members:
+        f = known[k]
+        text = open(f"crates/{f.crate}/src/{(f.module or 'lib') + '.rt'}").read()
+        body = re.search(r'fn ' + f.name + r'\(.*?\n\}\n', text, re.S).group()
+        called = set(re.findall(r'\b(\w+)\(', body)) - {f.name}
+        counted = 'tape.left' in body
+        calls[k] = set() if counted else {m for m in members if known[m].name in called}
+    rank = {}
+
+    def of(k):
+        if k not in rank:
+            rank[k] = 1 + max([of(m) for m in calls[k]], default=-1)
+        return rank[k]
+    for k in members:
+        of(k)
+    return rank
+
+
+def prove_cycle(crate, folder, path, known, defs, words):
+    names = [n for n in os.path.basename(os.path.dirname(path)).split('+') if n]
+    members = [n.replace('_', '-') for n in names]
+    rank = ranks(members, known)
+    top = max(rank.values()) + 1
+    text = open(path).read()
+    for k in members:
+        text = re.sub(r'^μ-' + re.escape(k) + r' κs a =.*$', f'μ-{k} κs a = {top} * a .0 .left + {rank[k]}', text, flags=re.M)
+    open(path, 'w').write(text)
+    sub = os.path.dirname(path).split('/proofs/', 1)[1]
+    walks = []
+    for n, k in zip(names, members):
+        lts = f'{folder}/Rattle.{crate}.proofs/proofs/{sub}/Lts-{n}.antt'
+        walks.append(Walk(known[k], Places(lts), known, defs, dict(words.get(k, {}), cycle=set(members))))
+    for k, w in zip(members, walks):
+        fill(path, w, k + '-')
+    head(path, uses(walks))
+
+
+def head(path, text):
+    body = open(path).read()
+    if HEAD in body:
+        body = body[body.index('-- ## The skeleton\n'):]
+    else:
+        body = '-- ## The skeleton\n' + body
+    open(path, 'w').write(text + body)
 
 
 def main():
@@ -548,40 +699,51 @@ def main():
             known.update(contracts(c))
     defs = programs.read(GRAMMAR)
     table = {}
-    words_file = f'tools/words/{crate}.py'
-    if os.path.exists(words_file):
-        exec(open(words_file).read(), table)
+    if os.path.exists(f'tools/words/{crate}.py'):
+        exec(open(f'tools/words/{crate}.py').read(), table)
     words = table.get('WORDS', {})
-    # a caller's places are known once its callees are proved: so in rounds, until nothing is new
     done = set()
+    if os.environ.get('PLACES'):
+        # the places that an earlier run generated, for code that has not changed since
+        round_of(crate, os.environ['PLACES'], only, known, defs, words, done)
+        return
+    # a caller's places are known once its callees are proved: so in rounds, until nothing is new
     while True:
         skeletons(crate)
         folder = generated(crate)
-        before = len(done)
-        for f in known.values():
-            if f.crate != crate or not f.rule or f.key in done or only and f.name not in only:
-                continue
-            w = words.get(f.key, {})
-            if w.get('by-hand'):
-                done.add(f.key)
-                continue
-            sub = '/'.join(x for x in (f.module, f.impl, f.name) if x)
-            proof = f'crates/{crate}/proofs/{sub}/Proof.antt'
-            lts = f'{folder}/Rattle.{crate}.proofs/proofs/{sub}/Lts.antt'
-            if not os.path.exists(proof) or not os.path.exists(lts):
-                continue
-            if f.head not in defs:
-                print(f'{f.name}: no program {f.head}')
-                done.add(f.key)
-                continue
-            fill(proof, Walk(f, Places(lts), known, defs, w), '', uses(crate, f, w))
-            done.add(f.key)
-        if len(done) == before:
+        fresh = round_of(crate, folder, only, known, defs, words, done)
+        if not fresh:
             break
     out, _ = skeletons(crate)
     for l in out.split('\n'):
-        if re.match(r'(fn .*(not proved|no proof|hole))|.*error:', l):
-            print(l[:400])
+        if re.match(r'(fn .*(not proved|no proof|hole in))|.*error:', l):
+            print(l[:300])
+
+
+def round_of(crate, folder, only, known, defs, words, done):
+    fresh = 0
+    for at, dirs, files in os.walk(f'crates/{crate}/proofs'):
+        path = f'{at}/Proof.antt'
+        name = os.path.basename(at)
+        if 'Proof.antt' not in files or path in done:
+            continue
+        if name.startswith('+'):
+            members = [n for n in name.split('+') if n]
+            if only and not set(only) & set(members):
+                continue
+            prove_cycle(crate, folder, path, known, defs, words)
+        else:
+            key = name.replace('_', '-')
+            f, w = known.get(key), words.get(key, {})
+            lts = f"{folder}/Rattle.{crate}.proofs/{at.split(f'crates/{crate}/', 1)[1]}/Lts.antt"
+            if not f or not f.rule or f.crate != crate or w.get('by-hand') or only and name not in only or not os.path.exists(lts):
+                continue
+            walk = Walk(f, Places(lts), known, defs, w)
+            fill(path, walk, '')
+            head(path, uses([walk]))
+        done.add(path)
+        fresh += 1
+    return fresh
 
 
 if __name__ == '__main__':

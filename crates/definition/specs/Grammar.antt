@@ -252,8 +252,11 @@ pat-or-rest = do
 unfoldable pub pat-item : Prog (Unit {0})
 pat-item = pat-or-rest >> take-while K-comma
 
+unfoldable pub pat-items : Prog (Unit {0})
+pat-items = while (next-glued isPatOrRest) pat-item
+
 unfoldable pub pat-parens : ℕ → Prog (Unit {0})
-pat-parens end = bump >> while (next-glued isPatOrRest) pat-item >> take-if end
+pat-parens end = bump >> pat-items >> take-if end
 
 -- pat_object (1043)
 unfoldable pub pat-value : Prog (Unit {0})
@@ -271,8 +274,11 @@ pat-object-turn u = do
       else if isObjectKey k then (pat-object-key >> ret (inl tt))
       else ret (inr tt)
 
+unfoldable pub pat-object-items : Prog (Unit {0})
+pat-object-items = loop pat-object-turn tt
+
 unfoldable pub pat-object : Prog (Unit {0})
-pat-object = bump >> loop pat-object-turn tt >> take-if K-brace-end
+pat-object = bump >> pat-object-items >> take-if K-brace-end
 
 -- pat (556)
 unfoldable pub pat-negative : Prog (Unit {0})
@@ -320,8 +326,11 @@ empty-body = empty EmptyBody
 unfoldable pub field : Prog (Unit {0})
 field = push Field >> take-while K-comma
 
+unfoldable pub fields : Prog (Unit {0})
+fields = while (next-is K-ident) field
+
 unfoldable pub field-body : ℕ → ℕ → Prog (Unit {0})
-field-body end kind = checkpoint (bump >> while (next-is K-ident) field >> take-if end >> close kind)
+field-body end kind = checkpoint (bump >> fields >> take-if end >> close kind)
 
 abbrev pub struct-body : Prog (Unit {0})
 struct-body = field-body K-brace-end StructBody
@@ -348,8 +357,11 @@ use-item = checkpoint (item-use >> close ItemUsePath)
 unfoldable pub use-path : Prog (Unit {0})
 use-path = use-item >> take-while K-comma
 
+unfoldable pub use-paths : Prog (Unit {0})
+use-paths = while (next isUsePath) use-path
+
 unfoldable pub use-group : Prog (Unit {0})
-use-group = checkpoint (bump >> while (next isUsePath) use-path >> take-if K-brace-end >> close ItemUseGroup)
+use-group = checkpoint (bump >> use-paths >> take-if K-brace-end >> close ItemUseGroup)
 
 unfoldable pub item-use-turn : Unit {0} → Prog (Unit {0} ⊎ Unit {0})
 item-use-turn u = do
@@ -359,8 +371,11 @@ item-use-turn u = do
       else if eqb k K-as then (bump >> take-if K-ident >> ret (inl tt))
       else ret (inr tt)
 
+unfoldable pub use-parts : Prog (Unit {0})
+use-parts = loop item-use-turn tt
+
 unfoldable pub item-use-body : Prog (Unit {0})
-item-use-body = bump >> loop item-use-turn tt
+item-use-body = bump >> use-parts
 
 -- item_enum (405)
 unfoldable pub variant-item : Prog (Unit {0})
@@ -370,14 +385,15 @@ unfoldable pub variant : Prog (Unit {0})
 variant = variant-item >> take-while K-comma
 
 unfoldable pub variants : Prog (Unit {0})
-variants = while (next-is K-ident) variant >> take-if K-brace-end
+variants = while (next-is K-ident) variant
+
+unfoldable pub enum-body : Prog (Unit {0})
+enum-body = do
+  b ← bump-if K-brace
+  when b (variants >> take-if K-brace-end)
 
 unfoldable pub item-enum : Prog (Unit {0})
-item-enum = do
-  bump
-  take-if K-ident
-  b ← bump-if K-brace
-  when b variants
+item-enum = bump >> take-if K-ident >> enum-body
 
 -- ## Expressions
 

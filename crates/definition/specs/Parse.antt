@@ -41,6 +41,15 @@ isEntry root = true
 isEntry (exprs separator) = isToken separator && not (isTrivia separator)
 isEntry format = true
 
+-- what follows where none of them refuses; `valid` says that limit and entry are
+unfoldable pub admitted : {A : Type 0} → Bool → List ℕ → List ℕ → (Unit {0} → Out A) → Out A
+admitted valid ks ls k =
+    guard valid 1 0 λ u.
+    guard (eqb (length ks) (length ls)) 2 0 λ u.
+    guard (leb (length ks) 65535) 3 0 λ u.
+    guard (eqb (firstNot isToken ks) (length ks)) 4 (firstNot isToken ks) λ u.
+    guard (eqb (firstOver 16777216 ls) (length ls)) 5 (firstOver 16777216 ls) k
+
 -- ## The parse
 
 -- a program from the start of a state, with d entries of depth left; `open(Root)` marks row 0
@@ -53,11 +62,7 @@ start = record { at = 0; byte = 0; out = [] }
 -- kinds, lengths, the table's element count, the depth limit
 unfoldable pub parse : Entry → List ℕ → List ℕ → ℕ → ℕ → Out (Unit {0})
 parse e ks ls n limit =
-    guard (isLimit limit && isEntry e) 1 0 λ u.
-    guard (eqb (length ks) (length ls)) 2 0 λ u.
-    guard (leb (length ks) 65535) 3 0 λ u.
-    guard (eqb (firstNot isToken ks) (length ks)) 4 (firstNot isToken ks) λ u.
-    guard (eqb (firstOver 16777216 ls) (length ls)) 5 (firstOver 16777216 ls) λ u.
+    admitted (isLimit limit && isEntry e) ks ls λ u.
     run (record { kinds = ks; lens = ls; cap = capacity n }) limit 0 (program e) start
 
 -- ## What the caller gets: number, place, row count, and every element of the table

@@ -1,3 +1,4 @@
 pub mod View
 pub mod Rows
 pub mod Steps
+pub mod Counted

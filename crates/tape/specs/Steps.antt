@@ -174,6 +174,10 @@ module _ {ks ls : List ℕ} {m : ℕ} where
   answered {a = a} {t = t} {tab = tab} {n = n} g =
       record { is = went-on (t .no) (t .place) a (stateOf t tab) (g .going); ready = λ y. ready-answer g; len = refl; left = refl }
 
+  -- the same where the code's answer is another form of the program's
+  pub answered-as : {A : Type 0} {a b : A} {t : Tape} {tab : List ℕ} {n : ℕ} → a ≡ b → Ready t ks ls tab → Step m (done a) b t (answer n t) ks ls tab tab
+  answered-as {b = b} {t = t} {tab = tab} {n = n} e g = subst (λ (x : _). Step m (done x) b t (answer n t) ks ls tab tab) (sym e) (answered g)
+
   -- what the tape answered before does not matter
   pub unanswered : {A : Type 0} {p : Prog A} {a : A} {n : ℕ} {t r : Tape} {tab tab′ : List ℕ} → Step m p a (answer n t) r ks ls tab tab′ → Step m p a t r ks ls tab tab′
   unanswered w = record { is = w .is; ready = w .ready; len = w .len; left = w .left }
