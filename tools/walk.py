@@ -142,6 +142,7 @@ class Stuck(Exception):
 class Walk:
     def __init__(self, fn, places, known, defs, words):
         self.fn, self.places, self.known, self.defs, self.words = fn, places, known, defs, words
+        self.inside = False
         self.coded = {f.head for f in known.values() if f.rule} | {'bump', 'flush', 'close'} | set(WRAPS)
         self.tree = self.inlined(defs[fn.head][1])
 
@@ -256,7 +257,7 @@ class Walk:
         own = self.places.own[e.place]
         side = 'taken' if re.search(r'\bpub taken\b', own) else 'left'
         fact = f'{e.term} .{side}'
-        m = re.search(r"Bool'\.(true|false)", own)
+        m = re.search(r"Bool'*\.(true|false)", own)
         if m:
             law = 'if-yes' if m.group(1) == 'true' else 'if-no'
             value = els[i - 1] if els[i - 1].kind == 'value' else None
@@ -308,7 +309,7 @@ class Walk:
 
     def ending(self, p, els, i):
         how = 'inl' if p[1].startswith('(inl') else 'inr' if p[1].startswith('(inr') else 'end'
-        answers = how == 'end' and self.fn.answer != 'tt' or how == 'inl' and self.words.get('answers')
+        answers = how == 'end' and self.fn.answer != 'tt' and not self.inside or how == 'inl' and self.words.get('answers')
         # what else the code computed on the way here does not matter
         while i < len(els) and els[i].kind == 'value':
             i += 1
@@ -326,7 +327,8 @@ class Walk:
             return self.ask(first, rest, els, i)
         term, j, how = self.first(first, els, i)
         if how == 'no':
-            return f'cut ({term[0]}) ({term[1]})', j, 'no'
+            none = f" {{a = {self.words.get('none', 'tt')}}}" if first[0] in ('while', 'loop') else ''
+            return f'cut{none} ({term[0]}) ({term[1]})', j, 'no'
         if j < len(els) and els[j].kind == 'go':
             more, k, how = self.walk(rest, els, j + 1)
             return f'both ({term}) ({els[j].term} .left) ({more})', k, how
@@ -344,7 +346,9 @@ class Walk:
             if j < len(els) and els[j].kind == 'no':
                 return (term, f'{els[j].term} .taken'), j + 1, 'no'
             return term, j, 'end'
+        self.inside, before = p[0] == 'test', self.inside
         term, j, how = self.walk(p, els, i)
+        self.inside = before
         if how == 'no':
             return (term, self.refused(els)), j, 'no'
         return term, j, 'end'
@@ -533,7 +537,7 @@ class Walk:
         """What was seen, as the law of progress asks for it."""
         own = self.places.own[test.place]
         saw = f'({looks[0].term} .ensures)'
-        if "Bool'." not in own:
+        if 'Bool' not in own:
             return f'goes-some {step} {saw} (λ z. omega (arith, {test.term} .taken))'
         value = turn[turn.index(test) - 1]
         fact = f'(sym ({value.term} .ensures) ∙ {test.term} .taken)'

@@ -4,5 +4,6 @@ WORDS = {
     'stream': {'by-hand': True},
     'modifiers': {
         'inv': 'Loop (repeat modifiers-turn (is-const, has-mods)) (repeat modifiers-turn (false, false)) t₀ t kinds lens table₀ table',
+        'none': '(false, false)',
     },
 }

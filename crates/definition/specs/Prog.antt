@@ -80,7 +80,6 @@ call g i (suc d) r s = eval i (call g i d) (length (s .out)) (g r) s
 infixr 15 if_then_else_
 infixr 20 _>>=_
 infixr 20 _>>_
-
 abbrev pub ret : {A : Type 0} → A → Prog A
 ret a = done a
 

@@ -190,7 +190,7 @@ module _ {ks ls tab₀ tab tab′ : List ℕ} {t₀ t r : Tape} (v : Flushing ks
         };
         le = omega (arith, l .next);
         next = l .next ∙ v .next;
-        rest = sym ((leaves-one (inOf ks ls tab₀) (t .at) (t .next) (stateOf t tab) h ∙ (rw (leaf-here, went-on (r .no) (r .place) (tt {0}) (stateOf r tab′) z, sym a, sym (l .next)))) ) ∙ v .rest;
+        rest = sym ((leaves-one (inOf ks ls tab₀) (t .at) (t .next) (stateOf t tab) h ∙ (rw (leaf-here, went-on (r .no) (r .place) (tt {0}) (stateOf r tab′) z, sym a, sym (l .next))))) ∙ v .rest;
         len = l .len ∙ v .len;
         left = l .left ∙ v .left;
       }
@@ -210,12 +210,12 @@ module _ {ks ls tab₀ tab : List ℕ} {t₀ t : Tape} (g : Ready t₀ ks ls tab
       let o = stopped (r .no) (r .place) (tt {0}) (stateOf r tab′) z in
       record {
         under = λ m.
-          record {
-            is = o ∙ sym (flush-is m g ∙ (sym (v .rest) ∙ (leaves-one (inOf ks ls tab₀) (t .at) (t .next) (stateOf t tab) h ∙ (rw (leaf-here v l h, o)))));
-            ready = λ y. absurd (z y);
-            len = l .len ∙ v .len;
-            left = l .left ∙ v .left;
-          };
+            record {
+              is = o ∙ sym (flush-is m g ∙ (sym (v .rest) ∙ (leaves-one (inOf ks ls tab₀) (t .at) (t .next) (stateOf t tab) h ∙ (rw (leaf-here v l h, o)))));
+              ready = λ y. absurd (z y);
+              len = l .len ∙ v .len;
+              left = l .left ∙ v .left;
+            };
       }
 
   pub flushing-end : t .next ≤ t .at → Ran flush tt t₀ t ks ls tab₀ tab
@@ -224,12 +224,12 @@ module _ {ks ls tab₀ tab : List ℕ} {t₀ t : Tape} (g : Ready t₀ ks ls tab
       let e : t .next - t .at ≡ 0 = omega arith in
       record {
         under = λ m.
-          record {
-            is = went-on (t .no) (t .place) tt (stateOf t tab) (v .ready .going) ∙ sym (flush-is m g ∙ (sym (v .rest) ∙ (rw e)));
-            ready = λ y. v .ready;
-            len = v .len;
-            left = v .left;
-          };
+            record {
+              is = went-on (t .no) (t .place) tt (stateOf t tab) (v .ready .going) ∙ sym (flush-is m g ∙ (sym (v .rest) ∙ (rw e)));
+              ready = λ y. v .ready;
+              len = v .len;
+              left = v .left;
+            };
       }
 
 -- ## A bump: a flush, and one leaf more
@@ -251,12 +251,12 @@ module _ {ks ls tab₀ tab : List ℕ} {t₀ t : Tape} (g : Ready t₀ ks ls tab
   bump-cut z =
       record {
         under = λ m.
-          record {
-            is = stopped (t .no) (t .place) tt (stateOf t tab) z ∙ sym (bump-is (inOf ks ls tab₀) (t₀ .left) m (stateOf t₀ tab₀) ∙ (rw (step-no (w .under m) z)));
-            ready = λ y. absurd (z y);
-            len = w .under m .len;
-            left = w .under m .left;
-          };
+            record {
+              is = stopped (t .no) (t .place) tt (stateOf t tab) z ∙ sym (bump-is (inOf ks ls tab₀) (t₀ .left) m (stateOf t₀ tab₀) ∙ (rw (step-no (w .under m) z)));
+              ready = λ y. absurd (z y);
+              len = w .under m .len;
+              left = w .under m .left;
+            };
       }
 
   -- what a bump comes to where the flush goes on
@@ -270,12 +270,12 @@ module _ {ks ls tab₀ tab : List ℕ} {t₀ t : Tape} (g : Ready t₀ ks ls tab
       let n : length ks ≤ t .at = omega (arith, flushed-at g w z) in
       record {
         under = λ m.
-          record {
-            is = went-on (t .no) (t .place) tt (stateOf t tab) z ∙ sym (bump-on m z ∙ (rw (le-ltb (t .at) (length ks) n)));
-            ready = w .under m .ready;
-            len = w .under m .len;
-            left = w .under m .left;
-          };
+            record {
+              is = went-on (t .no) (t .place) tt (stateOf t tab) z ∙ sym (bump-on m z ∙ (rw (le-ltb (t .at) (length ks) n)));
+              ready = w .under m .ready;
+              len = w .under m .len;
+              left = w .under m .left;
+            };
       }
 
   module _ {r : Tape} {tab′ : List ℕ} (l : Leaf t r ks ls tab tab′) (z : t .no ≡ 0) where
@@ -283,12 +283,12 @@ module _ {ks ls tab₀ tab : List ℕ} {t₀ t : Tape} (g : Ready t₀ ks ls tab
     bump-full y =
         record {
           under = λ m.
-            record {
-              is = l .is ∙ sym (bump-on m z);
-              ready = λ x. absurd (y x);
-              len = l .len ∙ w .under m .len;
-              left = l .left ∙ w .under m .left;
-            };
+              record {
+                is = l .is ∙ sym (bump-on m z);
+                ready = λ x. absurd (y x);
+                len = l .len ∙ w .under m .len;
+                left = l .left ∙ w .under m .left;
+              };
         }
 
     -- the places move on
@@ -302,21 +302,21 @@ module _ {ks ls tab₀ tab : List ℕ} {t₀ t : Tape} (g : Ready t₀ ks ls tab
         rw q
         record {
           under = λ m.
-            record {
-              is = l .is ∙ sym (bump-on m z);
-              ready = λ k.
-                record {
-                  going = y;
-                  sized = R .sized;
-                  looks = record {
-                    end = omega arith;
-                    few = R .looks .few;
-                    next = l .second ∙ (R .looks .second ∙ ap (λ (n : ℕ). skipped n ks) (sym a));
-                    second = refl;
-                  };
-                  fits = rw (l .len) (fits-then (inOf ks ls tab) 0 (stateOf t tab) (stateOf r tab′) _ tt (fits-leafAt (inOf ks ls tab) 0 (stateOf t tab)) o (R .fits));
-                };
-              len = l .len ∙ w .under m .len;
-              left = l .left ∙ w .under m .left;
-            };
+              record {
+                is = l .is ∙ sym (bump-on m z);
+                ready = λ k.
+                    record {
+                      going = y;
+                      sized = R .sized;
+                      looks = record {
+                        end = omega arith;
+                        few = R .looks .few;
+                        next = l .second ∙ (R .looks .second ∙ ap (λ (n : ℕ). skipped n ks) (sym a));
+                        second = refl;
+                      };
+                      fits = rw (l .len) (fits-then (inOf ks ls tab) 0 (stateOf t tab) (stateOf r tab′) _ tt (fits-leafAt (inOf ks ls tab) 0 (stateOf t tab)) o (R .fits));
+                    };
+                len = l .len ∙ w .under m .len;
+                left = l .left ∙ w .under m .left;
+              };
         }

@@ -56,7 +56,7 @@ module _ {m : ℕ} {ks ls : List ℕ} {t : Tape} {tab : List ℕ} where
       let z : r .no ≡ 0 → ⊥ = refused-tape e (λ y. omega arith) in
       record {
         is = stopped (r .no) (r .place) a (stateOf r tab) z ∙
-          ((rw e) ∙ (ap (λ (x : ℕ). refused 10 x) (g .looks .next) ∙ ap (λ (x : ℕ). call grammar (inOf ks ls tab) x q (stateOf t tab)) (sym h)));
+            ((rw e) ∙ (ap (λ (x : ℕ). refused 10 x) (g .looks .next) ∙ ap (λ (x : ℕ). call grammar (inOf ks ls tab) x q (stateOf t tab)) (sym h)));
         ready = λ y. absurd (z y);
         len = refl;
         left = rw e;

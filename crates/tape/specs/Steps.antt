@@ -107,7 +107,7 @@ module _ {ks ls : List ℕ} {m : ℕ} where
     both {f = f} {x = x} {tab″ = tab″} z v =
         record {
           is = v .is ∙ (run-same ks ls tab tab′ (t .left) (r .left) m (f a) (stateOf r tab′) (w .len) (w .left) ∙
-            sym (then-ok (inOf ks ls tab) (t .left) m p f (stateOf t tab) (step-ok z)));
+              sym (then-ok (inOf ks ls tab) (t .left) m p f (stateOf t tab) (step-ok z)));
           ready = v .ready;
           len = v .len ∙ w .len;
           left = v .left ∙ w .left;
@@ -231,12 +231,12 @@ module _ {A : Type 0} {t r : Tape} {ks ls tab tab′ : List ℕ} (w : Ran flush 
   scoped {q = q} z v =
       record {
         under = λ m.
-          record {
-            is = v .is ∙ (run-same ks ls tab tab′ (t .left) (r .left) (r .rows) q (stateOf r tab′) (w .under m .len) (w .under m .left) ∙ sym (scope-ok q m z));
-            ready = v .ready;
-            len = v .len ∙ w .under m .len;
-            left = v .left ∙ w .under m .left;
-          };
+            record {
+              is = v .is ∙ (run-same ks ls tab tab′ (t .left) (r .left) (r .rows) q (stateOf r tab′) (w .under m .len) (w .under m .left) ∙ sym (scope-ok q m z));
+              ready = v .ready;
+              len = v .len ∙ w .under m .len;
+              left = v .left ∙ w .under m .left;
+            };
       }
 
   scope-no : (q : Prog A) (m : ℕ) → (r .no ≡ 0 → ⊥) → run (inOf ks ls tab) (t .left) m (scope q) (stateOf t tab) ≡ refused (r .no) (r .place)
@@ -248,12 +248,12 @@ module _ {A : Type 0} {t r : Tape} {ks ls tab tab′ : List ℕ} (w : Ran flush 
   unscoped {q = q} {a = a} z =
       record {
         under = λ m.
-          record {
-            is = stopped (r .no) (r .place) a (stateOf r tab′) z ∙ sym (scope-no q m z);
-            ready = λ y. absurd (z y);
-            len = w .under m .len;
-            left = w .under m .left;
-          };
+            record {
+              is = stopped (r .no) (r .place) a (stateOf r tab′) z ∙ sym (scope-no q m z);
+              ready = λ y. absurd (z y);
+              len = w .under m .len;
+              left = w .under m .left;
+            };
       }
 
 -- ## Loops
@@ -306,7 +306,7 @@ module _ {ks ls : List ℕ} {m : ℕ} where
     last {b = b} w z =
         record {
           is = went-on (r .no) (r .place) b (stateOf r tab′) z ∙
-            sym (unroll (inOf ks ls tab) (call grammar (inOf ks ls tab) (t .left)) m f a (stateOf t tab) ∙ (rw (step-ok w z)));
+              sym (unroll (inOf ks ls tab) (call grammar (inOf ks ls tab) (t .left)) m f a (stateOf t tab) ∙ (rw (step-ok w z)));
           ready = w .ready;
           len = w .len;
           left = w .left;
@@ -318,7 +318,7 @@ module _ {ks ls : List ℕ} {m : ℕ} where
     last-cut {b = b} w z =
         record {
           is = stopped (r .no) (r .place) b (stateOf r tab′) z ∙
-            sym (unroll (inOf ks ls tab) (call grammar (inOf ks ls tab) (t .left)) m f a (stateOf t tab) ∙ (rw (step-no w z)));
+              sym (unroll (inOf ks ls tab) (call grammar (inOf ks ls tab) (t .left)) m f a (stateOf t tab) ∙ (rw (step-no w z)));
           ready = λ y. absurd (z y);
           len = w .len;
           left = w .left;
@@ -338,7 +338,7 @@ module _ {ks ls : List ℕ} {m : ℕ} where
   inv-again {f = f} {a = a} {b = b} {t₀ = t₀} {t = t} {r = r} {tab₀ = tab₀} {tab = tab} {tab′ = tab′} v w z h =
       record {
         is = sym (run-same ks ls tab₀ tab (t₀ .left) (t .left) m (repeat f b) (stateOf r tab′) (v .len) (v .left)) ∙
-          (turn-is f a w z h ∙ (run-same ks ls tab₀ tab (t₀ .left) (t .left) m (repeat f a) (stateOf t tab) (v .len) (v .left) ∙ v .is));
+            (turn-is f a w z h ∙ (run-same ks ls tab₀ tab (t₀ .left) (t .left) m (repeat f a) (stateOf t tab) (v .len) (v .left) ∙ v .is));
         len = w .len ∙ v .len;
         left = w .left ∙ v .left;
         marked = λ b. step-marked w z (v .marked b);

@@ -14,15 +14,15 @@ use kinds::operators::Op;
 
 // The state. After each call that writes, `no` is tested: 0 goes on, and another number is a refusal at `place`.
 pub struct Tape {
-    pub at: usize,     // the next token not yet written, trivia included
-    pub next: usize,   // the next one that is no trivia ("here"), or the token count
+    pub at: usize, // the next token not yet written, trivia included
+    pub next: usize, // the next one that is no trivia ("here"), or the token count
     pub second: usize, // the next after that one, or past the end
-    pub byte: u32,     // where the token `at` starts
-    pub rows: usize,   // rows written
-    pub left: u32,     // entries of the counted rules that are left
-    pub no: u32,       // refusal number
-    pub place: u32,    // refusal place
-    pub ans: u8,       // what the last call answered: a kind, or 1 for yes and 0 for no
+    pub byte: u32, // where the token `at` starts
+    pub rows: usize, // rows written
+    pub left: u32, // entries of the counted rules that are left
+    pub no: u32, // refusal number
+    pub place: u32, // refusal place
+    pub ans: u8, // what the last call answered: a kind, or 1 for yes and 0 for no
 }
 
 // The rows that a table of n elements holds.
@@ -215,7 +215,14 @@ impl Tape {
         let here = self.next;
         if rows < capacity(table.len()) {
             let start = start_of(self, c, table);
-            write_row(table, rows, kind as u32, (rows - c) as u32, start, self.byte - start);
+            write_row(
+                table,
+                rows,
+                kind as u32,
+                (rows - c) as u32,
+                start,
+                self.byte - start,
+            );
             return Tape {
                 at: self.at,
                 next: self.next,

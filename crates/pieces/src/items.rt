@@ -1,0 +1,307 @@
+// Items that hold no expression: items.rt.
+ghost use mathlib.Core.Path.{_≡_};
+ghost use Prim.Native.Nat.{_<_};
+ghost use Rattle.definition.specs.Grammar.{item-struct, any-body, field-body, fields as fieldsProg, field as fieldProg, item-enum, enum-body, variants as variantsProg, variant as variantProg, variant-item, item-use as itemUse, item-use-body as itemUseBody, use-parts as useParts, use-group as useGroup, use-paths as usePaths, use-path as usePath, use-item as useItem};
+ghost use Rattle.tape.specs.View.{said, Ready, Marked, Step, Ran};
+use kinds::AS;
+use kinds::BRACE;
+use kinds::BRACE_END;
+use kinds::COMMA;
+use kinds::EMPTY_BODY;
+use kinds::FIELD;
+use kinds::IDENT;
+use kinds::ITEM_USE_GROUP;
+use kinds::ITEM_USE_PATH;
+use kinds::PAREN;
+use kinds::PAREN_END;
+use kinds::STRUCT_BODY;
+use kinds::TUPLE_BODY;
+use kinds::VARIANT;
+use tape::Tape;
+
+// item_struct of grammar.rs
+pub fn item_struct(tape: Tape, kinds: &[u8], lens: &[u32], table: &mut [u32]) -> Tape
+    requires { ⌜ Ready tape (now kinds) (now lens) (now table) ⌝ }
+    ensures { λ r. ⌜ Ran item-struct tt tape r (now (kinds .entry)) (now (lens .entry)) (now (table .entry)) (now (table .exit)) ⌝ }
+{
+    let mut t = tape.bump(kinds, lens, table);
+    if t.no != 0 {
+        return t;
+    }
+    t = t.bump_if(IDENT, kinds, lens, table);
+    if t.no != 0 {
+        return t;
+    }
+    any_body(t, kinds, lens, table)
+}
+
+// struct_body, tuple_body or empty_body of grammar.rs, as the next token says.
+fn any_body(tape: Tape, kinds: &[u8], lens: &[u32], table: &mut [u32]) -> Tape
+    requires { ⌜ Ready tape (now kinds) (now lens) (now table) ⌝ }
+    ensures { λ r. ⌜ Ran any-body tt tape r (now (kinds .entry)) (now (lens .entry)) (now (table .entry)) (now (table .exit)) ⌝ }
+{
+    let k = tape.peek(kinds);
+    if k == BRACE {
+        return field_body(tape, BRACE_END, STRUCT_BODY, kinds, lens, table);
+    }
+    if k == PAREN {
+        return field_body(tape, PAREN_END, TUPLE_BODY, kinds, lens, table);
+    }
+    tape.empty(EMPTY_BODY, kinds, lens, table)
+}
+
+fn field_body(tape: Tape, end: u8, kind: u8, kinds: &[u8], lens: &[u32], table: &mut [u32]) -> Tape
+    requires { ⌜ Ready tape (now kinds) (now lens) (now table) ⌝ }
+    ensures { λ r. ⌜ Ran (field-body end kind) tt tape r (now (kinds .entry)) (now (lens .entry)) (now (table .entry)) (now (table .exit)) ⌝ }
+{
+    let mut t = tape.flush_ws(kinds, lens, table);
+    if t.no != 0 {
+        return t;
+    }
+    let c = t.rows;
+    t = t.bump(kinds, lens, table);
+    if t.no != 0 {
+        return t;
+    }
+    t = fields(t, kinds, lens, table);
+    if t.no != 0 {
+        return t;
+    }
+    t = t.bump_if(end, kinds, lens, table);
+    if t.no != 0 {
+        return t;
+    }
+    t.close_at(c, kind, kinds, lens, table)
+}
+
+fn fields(tape: Tape, kinds: &[u8], lens: &[u32], table: &mut [u32]) -> Tape
+    requires { ⌜ Ready tape (now kinds) (now lens) (now table) ⌝ }
+    ensures { λ r. ⌜ Ran fieldsProg tt tape r (now (kinds .entry)) (now (lens .entry)) (now (table .entry)) (now (table .exit)) ⌝ }
+{
+    let mut t = tape;
+    while t.peek(kinds) == IDENT {
+        t = field(t, kinds, lens, table);
+        if t.no != 0 {
+            return t;
+        }
+    }
+    t
+}
+
+fn field(tape: Tape, kinds: &[u8], lens: &[u32], table: &mut [u32]) -> Tape
+    requires { ⌜ Ready tape (now kinds) (now lens) (now table) ⌝ }
+    ensures { λ r. ⌜ Ran fieldProg tt tape r (now (kinds .entry)) (now (lens .entry)) (now (table .entry)) (now (table .exit)) ⌝ }
+{
+    let t = tape.push(FIELD, kinds, lens, table);
+    if t.no != 0 {
+        return t;
+    }
+    t.bump_while(COMMA, kinds, lens, table)
+}
+
+// item_enum of grammar.rs
+pub fn item_enum(tape: Tape, kinds: &[u8], lens: &[u32], table: &mut [u32]) -> Tape
+    requires { ⌜ Ready tape (now kinds) (now lens) (now table) ⌝ }
+    ensures { λ r. ⌜ Ran item-enum tt tape r (now (kinds .entry)) (now (lens .entry)) (now (table .entry)) (now (table .exit)) ⌝ }
+{
+    let mut t = tape.bump(kinds, lens, table);
+    if t.no != 0 {
+        return t;
+    }
+    t = t.bump_if(IDENT, kinds, lens, table);
+    if t.no != 0 {
+        return t;
+    }
+    enum_body(t, kinds, lens, table)
+}
+
+fn enum_body(tape: Tape, kinds: &[u8], lens: &[u32], table: &mut [u32]) -> Tape
+    requires { ⌜ Ready tape (now kinds) (now lens) (now table) ⌝ }
+    ensures { λ r. ⌜ Ran enum-body tt tape r (now (kinds .entry)) (now (lens .entry)) (now (table .entry)) (now (table .exit)) ⌝ }
+{
+    let mut t = tape.bump_if(BRACE, kinds, lens, table);
+    if t.no != 0 {
+        return t;
+    }
+    if t.ans == 1 {
+        t = variants(t, kinds, lens, table);
+        if t.no != 0 {
+            return t;
+        }
+        return t.bump_if(BRACE_END, kinds, lens, table);
+    }
+    t
+}
+
+fn variants(tape: Tape, kinds: &[u8], lens: &[u32], table: &mut [u32]) -> Tape
+    requires { ⌜ Ready tape (now kinds) (now lens) (now table) ⌝ }
+    ensures { λ r. ⌜ Ran variantsProg tt tape r (now (kinds .entry)) (now (lens .entry)) (now (table .entry)) (now (table .exit)) ⌝ }
+{
+    let mut t = tape;
+    while t.peek(kinds) == IDENT {
+        t = variant(t, kinds, lens, table);
+        if t.no != 0 {
+            return t;
+        }
+    }
+    t
+}
+
+fn variant(tape: Tape, kinds: &[u8], lens: &[u32], table: &mut [u32]) -> Tape
+    requires { ⌜ Ready tape (now kinds) (now lens) (now table) ⌝ }
+    ensures { λ r. ⌜ Ran variantProg tt tape r (now (kinds .entry)) (now (lens .entry)) (now (table .entry)) (now (table .exit)) ⌝ }
+{
+    let t = variant_item(tape, kinds, lens, table);
+    if t.no != 0 {
+        return t;
+    }
+    t.bump_while(COMMA, kinds, lens, table)
+}
+
+fn variant_item(tape: Tape, kinds: &[u8], lens: &[u32], table: &mut [u32]) -> Tape
+    requires { ⌜ Ready tape (now kinds) (now lens) (now table) ⌝ }
+    ensures { λ r. ⌜ Ran variant-item tt tape r (now (kinds .entry)) (now (lens .entry)) (now (table .entry)) (now (table .exit)) ⌝ }
+{
+    let mut t = tape.flush_ws(kinds, lens, table);
+    if t.no != 0 {
+        return t;
+    }
+    let c = t.rows;
+    t = t.bump(kinds, lens, table);
+    if t.no != 0 {
+        return t;
+    }
+    t = any_body(t, kinds, lens, table);
+    if t.no != 0 {
+        return t;
+    }
+    t.close_at(c, VARIANT, kinds, lens, table)
+}
+
+// item_use of grammar.rs: counted.
+pub fn item_use(tape: Tape, kinds: &[u8], lens: &[u32], table: &mut [u32]) -> Tape
+    requires { ⌜ Ready tape (now kinds) (now lens) (now table) ⌝ }
+    ensures { λ r. ⌜ Ran itemUse tt tape r (now (kinds .entry)) (now (lens .entry)) (now (table .entry)) (now (table .exit)) ⌝ }
+{
+    let left = tape.left;
+    if left == 0 {
+        return tape.refuse(10, tape.next);
+    }
+    let mut t = tape;
+    t.left = left - 1;
+    t = item_use_body(t, kinds, lens, table);
+    t.left = left;
+    t
+}
+
+fn item_use_body(tape: Tape, kinds: &[u8], lens: &[u32], table: &mut [u32]) -> Tape
+    requires { ⌜ Ready tape (now kinds) (now lens) (now table) ⌝ }
+    ensures { λ r. ⌜ Ran itemUseBody tt tape r (now (kinds .entry)) (now (lens .entry)) (now (table .entry)) (now (table .exit)) ⌝ }
+{
+    let t = tape.bump(kinds, lens, table);
+    if t.no != 0 {
+        return t;
+    }
+    use_parts(t, kinds, lens, table)
+}
+
+fn use_parts(tape: Tape, kinds: &[u8], lens: &[u32], table: &mut [u32]) -> Tape
+    requires { ⌜ Ready tape (now kinds) (now lens) (now table) ⌝ }
+    ensures { λ r. ⌜ Ran useParts tt tape r (now (kinds .entry)) (now (lens .entry)) (now (table .entry)) (now (table .exit)) ⌝ }
+{
+    let mut t = tape;
+    loop {
+        let k = t.peek(kinds);
+        if kinds::classes::is_use_part(k) {
+            t = t.bump(kinds, lens, table);
+            if t.no != 0 {
+                return t;
+            }
+            continue;
+        }
+        if k == BRACE {
+            t = use_group(t, kinds, lens, table);
+            if t.no != 0 {
+                return t;
+            }
+            continue;
+        }
+        if k == AS {
+            t = t.bump(kinds, lens, table);
+            if t.no != 0 {
+                return t;
+            }
+            t = t.bump_if(IDENT, kinds, lens, table);
+            if t.no != 0 {
+                return t;
+            }
+            continue;
+        }
+        return t;
+    }
+}
+
+fn use_group(tape: Tape, kinds: &[u8], lens: &[u32], table: &mut [u32]) -> Tape
+    requires { ⌜ Ready tape (now kinds) (now lens) (now table) ⌝ }
+    ensures { λ r. ⌜ Ran useGroup tt tape r (now (kinds .entry)) (now (lens .entry)) (now (table .entry)) (now (table .exit)) ⌝ }
+{
+    let mut t = tape.flush_ws(kinds, lens, table);
+    if t.no != 0 {
+        return t;
+    }
+    let c = t.rows;
+    t = t.bump(kinds, lens, table);
+    if t.no != 0 {
+        return t;
+    }
+    t = use_paths(t, kinds, lens, table);
+    if t.no != 0 {
+        return t;
+    }
+    t = t.bump_if(BRACE_END, kinds, lens, table);
+    if t.no != 0 {
+        return t;
+    }
+    t.close_at(c, ITEM_USE_GROUP, kinds, lens, table)
+}
+
+fn use_paths(tape: Tape, kinds: &[u8], lens: &[u32], table: &mut [u32]) -> Tape
+    requires { ⌜ Ready tape (now kinds) (now lens) (now table) ⌝ }
+    ensures { λ r. ⌜ Ran usePaths tt tape r (now (kinds .entry)) (now (lens .entry)) (now (table .entry)) (now (table .exit)) ⌝ }
+{
+    let mut t = tape;
+    while kinds::classes::is_use_path(t.peek(kinds)) {
+        t = use_path(t, kinds, lens, table);
+        if t.no != 0 {
+            return t;
+        }
+    }
+    t
+}
+
+fn use_path(tape: Tape, kinds: &[u8], lens: &[u32], table: &mut [u32]) -> Tape
+    requires { ⌜ Ready tape (now kinds) (now lens) (now table) ⌝ }
+    ensures { λ r. ⌜ Ran usePath tt tape r (now (kinds .entry)) (now (lens .entry)) (now (table .entry)) (now (table .exit)) ⌝ }
+{
+    let t = use_item(tape, kinds, lens, table);
+    if t.no != 0 {
+        return t;
+    }
+    t.bump_while(COMMA, kinds, lens, table)
+}
+
+fn use_item(tape: Tape, kinds: &[u8], lens: &[u32], table: &mut [u32]) -> Tape
+    requires { ⌜ Ready tape (now kinds) (now lens) (now table) ⌝ }
+    ensures { λ r. ⌜ Ran useItem tt tape r (now (kinds .entry)) (now (lens .entry)) (now (table .entry)) (now (table .exit)) ⌝ }
+{
+    let mut t = tape.flush_ws(kinds, lens, table);
+    if t.no != 0 {
+        return t;
+    }
+    let c = t.rows;
+    t = item_use(t, kinds, lens, table);
+    if t.no != 0 {
+        return t;
+    }
+    t.close_at(c, ITEM_USE_PATH, kinds, lens, table)
+}
