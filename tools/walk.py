@@ -28,12 +28,13 @@ NUMBER_TEST = re.compile(r'as-values .*\)((?: \.1){6}) \.0\) 0( → ⊥)?$')
 LOOKS = ('peek', 'glued', 'peek-second')
 WRAPS = {'take-if': 'ends', 'take-while': 'ends'}
 # the laws of crates/laws/specs/Progress.antt that ask nothing, a class of the next kind, a class of it with the one glued to it; the others ask for a token
-FURTHER_ANY = {'stmt', 'expr', 'outer-expr-with', 'expr-with', 'separated'}
+FURTHER_ANY = {'stmt': 'stmt-further', 'expr-with': '(λ i d n s. expr-with-further i d n s _ _ _)'}
 FURTHER_SAW = {'path': 'isPathComponent', 'generic-path': 'isPathComponent'}
-FURTHER_GLUED = {'pat': 'isPat', 'pat-item': 'isPatOrRest', 'pat-or-rest': 'isPatOrRest', 'match-arm': 'isPat', 'select-arm': 'isSelectArm'}
+FURTHER_GLUED = {'pat': 'isPat', 'pat-item': 'isPatOrRest', 'pat-or-rest': 'isPatOrRest', 'match-case': 'isPat', 'select-case': 'isSelectArm'}
 # a kind of a class is no Eof
 SOME = {'is-path-component': 'path-component-some _', 'is-use-path': 'use-path-some _', 'is-object-key': 'object-key-some _',
-        'glues': 'glues-some _ _ _ _ refl', 'is-use-part': 'not-eof isUsePart (at-eof true true 0 .use-part)'}
+        'glues': 'glues-some _ _ _ _ refl', 'is-use-part': 'not-eof isUsePart (at-eof true true 0 .use-part)',
+        'is-stmt-recovering': 'recovering-some _ _'}
 
 
 # ## The code's contracts
@@ -57,7 +58,7 @@ class Function:
     def ask(self, word):
         """Where a part of what is asked stands: '' for the whole, ' .0', ' .1' .."""
         for n, a in enumerate(self.asks):
-            if a.startswith(word):
+            if a.strip('( ').startswith(word):
                 return '' if len(self.asks) == 1 else f' .{n}'
         return None
 
@@ -146,11 +147,14 @@ class Walk:
         self.coded = {f.head for f in known.values() if f.rule} | {'bump', 'flush', 'close'} | set(WRAPS)
         self.tree = self.inlined(defs[fn.head][1])
 
-    def inlined(self, p):
-        """A program that no function runs stands where it is used."""
+    def inlined(self, p, given={}):
+        """A program that no function runs stands where it is used, with the programs that it is given."""
+        if p[0] == 'call' and p[1] in given:
+            return self.inlined(programs.Parser(programs.tokens(given[p[1]])).expr())
         if p[0] == 'call' and p[1] not in self.coded and p[1] in self.defs:
-            return self.inlined(self.defs[p[1]][1])
-        return tuple(self.inlined(x) if isinstance(x, tuple) else x for x in p)
+            params, tree = self.defs[p[1]]
+            return self.inlined(tree, dict(zip(params, p[2])))
+        return tuple(self.inlined(x, given) if isinstance(x, tuple) else x for x in p)
 
     # ### The steps on the way to a place
 
@@ -160,6 +164,8 @@ class Walk:
         for n, p in enumerate(way):
             at = 'c' + ' .before' * (len(way) - 1 - n)
             for f in self.places.fields.get(p, []):
+                if f == 'args':
+                    self.args = f'{at} .args'
                 e = self.element(f, f'{at} .{f}', p)
                 if e:
                     out.append(e)
@@ -208,10 +214,13 @@ class Walk:
                 under = '' if f.mark else ' .under 0'
                 return f'{e.term} .ensures{under} .ready ({go.term} .left)'
             if e.kind == 'loop':
-                return f'{e.term} .inv .ready'
+                return f'{self.inv(e)} .ready'
             if e.kind == 'pre':
                 return self.pre(e, 'Ready')
         raise Stuck('no start')
+
+    def inv(self, e):
+        return f"{e.term} .inv{' .loop' if 'next' in self.words else ''}"
 
     def marked(self, els):
         """The mark of the scope that the way is in, or of the caller, is one."""
@@ -230,7 +239,7 @@ class Walk:
             if e.kind == 'call':
                 term = f'step-marked ({self.step_of(e)}) ({els[n + 1].term} .left) ({term})'
             if e.kind == 'loop':
-                term = f'{e.term} .inv .under _ .marked ({term})'
+                term = f'{self.inv(e)} .under _ .marked ({term})'
         return term
 
     def step_of(self, e):
@@ -242,13 +251,13 @@ class Walk:
             if e.kind == 'call':
                 xs.insert(0, f"{e.term} .ensures{'' if self.known[e.name].mark else ' .under 0'} .len")
             if e.kind == 'loop':
-                xs.insert(0, f'{e.term} .inv .under 0 .len')
+                xs.insert(0, f'{self.inv(e)} .under 0 .len')
         return ' ∙ ('.join(xs) + ')' * (len(xs) - 1) if xs else 'refl'
 
     def lefts(self, els):
         """That as many entries are left as at the start, of each call on the way."""
         return [f"{e.term} .ensures{'' if self.known[e.name].mark else ' .under 0'} .left" for e in els if e.kind == 'call'] + \
-            [f'{e.term} .inv .under 0 .left' for e in els if e.kind == 'loop']
+            [f'{self.inv(e)} .under 0 .left' for e in els if e.kind == 'loop']
 
     # ### The walk: a term for Step _ P _ .., from element i on; and where it ends
 
@@ -314,6 +323,10 @@ class Walk:
         while i < len(els) and els[i].kind == 'value':
             i += 1
         # a yes or no that the code tests, to put it down
+        if how == 'inr' and self.fn.answer != 'tt' and self.tree[0] == 'loop':
+            if i < len(els) and els[i].kind == 'if':
+                side = 'taken' if re.search(r'\bpub taken\b', self.places.own[els[i].place]) else 'left'
+                return f'answered-as (ap (λ (x : Bool). inr x) ({els[i].term} .{side})) ({self.ready(els[:i])})', i + 1, how
         if answers and i < len(els) and els[i].kind == 'if':
             side = 'taken' if re.search(r'\bpub taken\b', self.places.own[els[i].place]) else 'left'
             return f'answered-as ({els[i].term} .{side}) ({self.ready(els[:i])})', i + 1, how
@@ -376,6 +389,9 @@ class Walk:
             return f'ask ({els[i].term} .ensures) ({term})', j, how
         second = self.skip(els, i + 1, ('look',))
         law = 'ask-glued' if p[1] == 'g' else 'ask-second'
+        if second + 1 < len(els) and els[second + 1].name == 'from-slice':
+            term, j, how = self.walk(rest, els, second + 2)
+            return f'ask-second-as ({els[i].term} .ensures) ({els[second].term} .ensures) ({els[second + 1].term} .ensures .is) ({term})', j, how
         term, j, how = self.walk(rest, els, second + 1)
         return f'{law} ({els[i].term} .ensures) ({els[second].term} .ensures) ({term})', j, how
 
@@ -402,7 +418,7 @@ class Walk:
 
     def loop(self, p, els, i):
         i = self.skip(els, i, ('loop',))
-        inv = f'{els[i].term} .inv .under _'
+        inv = f'{self.inv(els[i])} .under _'
         term, j, how = self.walk(self.turn(p), els, i + 1)
         if how == 'no':
             return f'inv-end ({inv}) (last-cut ({term}) ({self.refused(els)}))', j, 'no'
@@ -426,6 +442,13 @@ class Walk:
                 parts.append(f'deep ({self.ready(els)})' if self.counted() else self.ready(els))
             elif a.startswith('Marked'):
                 parts.append(self.marked(els))
+            elif a.startswith('(Next') and self.counted():
+                given = self.pre(els[0], 'Next')
+                parts.append(f'record {{ is = {given} .is; small = {given} .small }}')
+            elif a.startswith('(Next'):
+                parts.append(self.pre(els[0], 'Next') if self.fn.ask('Next') and not self.find_loop(self.tree) else self.current_next(els))
+            elif a.startswith('(Small'):
+                parts.append(self.pre(els[0], 'Small') if self.fn.ask('Small') else f'record {{ small = {self.current_next(els)} .small }}')
             else:
                 parts.append('omega arith')
         if self.words.get('cycle') and name in self.words['cycle']:
@@ -450,7 +473,7 @@ class Walk:
                 return term
             return f'record {{ under = λ m. {term} }}'
         if base == 'loop-holds':
-            return f'record {{ ready = {self.ready(els)}; under = λ m. inv-start }}'
+            return self.with_next(f'record {{ ready = {self.ready(els)}; under = λ m. inv-start }}', els)
         if base in ('loop-less', 'loop-again'):
             return self.again(base, els)
         return 'search needs'
@@ -463,7 +486,26 @@ class Walk:
         go = [e for e in els if e.kind == 'go'][-1]
         loop = self.find_loop(self.tree)
         term, j, how = self.walk(self.turn(loop), els, n + 1)
-        return f'record {{ ready = {self.ready(els)}; under = λ m. inv-again ({els[n].term} .inv .under m) ({term}) ({go.term} .left) ({move}) }}'
+        loop_term = f'record {{ ready = {self.ready(els)}; under = λ m. inv-again ({self.inv(els[n])} .under m) ({term}) ({go.term} .left) ({move}) }}'
+        return self.with_next(loop_term, els)
+
+    def with_next(self, loop_term, els):
+        """A loop over operators keeps that its operator is the next."""
+        if 'next' not in self.words:
+            return loop_term
+        return f'record {{ loop = {loop_term}; next = {self.next_op(els)} }}'
+
+    def current_next(self, els):
+        loops = [e for e in els if e.kind == 'loop']
+        return f'{loops[-1].term} .inv .next' if loops else self.next_op(els)
+
+    def next_op(self, els):
+        looked = [n for n, e in enumerate(els) if e.name == 'from-slice']
+        if looked:
+            looks = [e for e in els[:looked[-1]] if e.kind == 'look'][-2:]
+            return f'looked ({els[looked[-1]].term} .ensures) ({looks[0].term} .ensures) ({looks[1].term} .ensures)'
+        loops = [e for e in els if e.kind == 'loop']
+        return f'{loops[-1].term} .inv .next' if loops else self.pre(els[0], 'Next')
 
     def find_loop(self, p):
         if p[0] in ('while', 'loop'):
@@ -478,6 +520,8 @@ class Walk:
     def expand(self, text, els):
         """`@x` in the words stands for the last element of that name."""
         def one(m):
+            if m.group(1) == 'args':
+                return self.args
             for e in reversed(els):
                 if e.name == m.group(1):
                     return e.term
@@ -502,15 +546,24 @@ class Walk:
     # ### A counted rule: its depth is tested, and its body has one entry less
 
     def counted(self):
-        return self.tree[0] == 'seq' and self.tree[2][0] == 'call' and self.tree[2][1] == 'enter'
+        first = self.tree[2] if self.tree[0] == 'seq' else self.tree
+        return first[0] == 'call' and first[1] == 'enter'
 
     def entry(self, els):
         test = next(e for e in els if e.kind == 'if')
         ready = self.pre(els[0], 'Ready')
-        if els[-1].kind == 'refuse':
-            return f'record {{ under = λ m. ends {{a = 0}} (barred ({ready}) ({test.term} .taken) ({els[-1].term} .ensures)) }}'
-        body = next(e for e in els if e.kind == 'call')
-        return f'record {{ under = λ m. ends (entered ({test.term} .left) (ends ({body.term} .ensures .under _))) }}'
+        refused = els[-1].kind == 'refuse'
+        if refused:
+            term = f'barred ({ready}) ({test.term} .taken) ({els[-1].term} .ensures)'
+        else:
+            term = f"{next(e for e in els if e.kind == 'call').term} .ensures .under _"
+        if self.tree[0] == 'call':
+            term = term if refused else f'entered ({test.term} .left) ({term})'
+        elif self.tree[1]:
+            term = f'cut {{a = 0}} ({term}) (refused-tape ({els[-1].term} .ensures) (λ z. omega arith))' if refused else f'entered-bool refl ({test.term} .left) ({term})'
+        else:
+            term = f'ends {{a = 0}} ({term})' if refused else f'ends (entered ({test.term} .left) (ends ({term})))'
+        return f'record {{ under = λ m. {term} }}'
 
     # ### Progress: the first call of a turn comes further, since of what was seen
 
@@ -525,7 +578,7 @@ class Walk:
         tests = [e for e in turn[:calls[0]] if e.kind == 'if']
         step = f"({first.term} .ensures{'' if self.known[first.name].mark else ' .under 0'}) ({go.term} .left)"
         if head in FURTHER_ANY:
-            term = f'goes-on {step} {head}-further'
+            term = f'goes-on {step} {FURTHER_ANY[head]}'
         else:
             term = f'{self.because(head, step, looks, tests[-1], turn)} {head}-further'
         for k in calls[1:]:
@@ -636,11 +689,11 @@ use borrow.Author.Tests.{{eq-eqb, ne-eqb}}
 use Rattle.definition.specs.Classes.{{isPathComponent, isPat, isPatOrRest, isUsePart, isSelectArm}}
 use Rattle.definition.specs.Prog.{{repeat}}
 use Rattle.definition.specs.Grammar.{{{', '.join(gram)}}}
-use Rattle.laws.specs.Progress.{{{', '.join(heads + ['path-component-some', 'use-path-some', 'object-key-some', 'glues-some'])}}}
+use Rattle.laws.specs.Progress.{{{', '.join(heads + ['path-component-some', 'use-path-some', 'object-key-some', 'glues-some', 'recovering-some'])}}}
 use Rattle.kinds.specs.Laws.{{not-eof, at-eof}}
 use Rattle.tape.specs.View.{{Step, Ran, said}}
-use Rattle.tape.specs.Steps.{{Loop, Onward, fuel, burns, here-few, marked-now, step-marked, both, cut, refusal, ends, if-yes, if-no, look, touch, spot, ask, ask-glued, ask-second, scoped, unscoped, nothing, answered, answered-as, refuses, refused-tape, inv-start, inv-again, inv-end, last, last-cut}}
-use Rattle.tape.specs.Counted.{{deep, entered, barred, goes-on, goes-some, goes-saw, goes-glued, and-on}}
+use Rattle.tape.specs.Steps.{{Loop, Onward, fuel, burns, here-few, marked-now, step-marked, both, cut, refusal, ends, if-yes, if-no, look, touch, spot, ask, ask-glued, ask-second, ask-second-as, scoped, unscoped, nothing, answered, answered-as, refuses, refused-tape, inv-start, inv-again, inv-end, last, last-cut}}
+use Rattle.tape.specs.Counted.{{deep, entered, entered-bool, barred, goes-on, goes-some, goes-saw, goes-glued, and-on}}
 ''' + ''.join(l + '\n' for l in more)
 
 

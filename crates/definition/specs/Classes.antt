@@ -75,6 +75,10 @@ isRange kind = among kind (ExprRangeTo ∷ ExprRangeToInclusive ∷ ExprRangeFul
 unfoldable pub kindIsCallable : ℕ → Bool
 kindIsCallable kind = not (among kind (ExprWhile ∷ ExprFor ∷ []))
 
+-- a bracket of kind j that may follow an expression of that kind
+unfoldable pub linked : ℕ → ℕ → ℕ → Bool
+linked kind j k = eqb k j && kindIsCallable kind
+
 -- `!`, `-`, `&`, `*`: what expr_primary takes as a unary operator
 unfoldable pub isUnary : ℕ → Bool
 isUnary k = among k (K-! ∷ K-dash ∷ K-& ∷ K-* ∷ [])
@@ -86,12 +90,16 @@ isUsePart k = isPathComponent k || eqb k K-*
 unfoldable pub isUsePath : ℕ → Bool
 isUsePath k = isPathComponent k || among k (K-brace ∷ K-* ∷ [])
 
--- what begins an item of `pat_parens`, an arm of `select`; what ends a block
+-- what begins an item of `pat_parens`, an arm of `select`; what does not end a block
 unfoldable pub isPatOrRest : ℕ → ℕ → Bool
 isPatOrRest k g = isPat k g || eqb k K-dotdot
 
 unfoldable pub isSelectArm : ℕ → ℕ → Bool
 isSelectArm k g = isPat k g || eqb k K-default
 
-unfoldable pub isBlockEnd : ℕ → Bool
-isBlockEnd k = among k (K-brace-end ∷ Eof ∷ [])
+unfoldable pub inBlock : ℕ → Bool
+inBlock k = not (among k (K-brace-end ∷ Eof ∷ []))
+
+-- a token is left
+unfoldable pub isSome : ℕ → Bool
+isSome k = not (eqb k Eof)

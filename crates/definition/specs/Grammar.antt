@@ -13,7 +13,7 @@ use mathlib.Core.Logic.{_⊎_, inl, inr}
 use lib.Dec.{ltb, eqb}
 use Rattle.definition.specs.Kinds.{Eof, K-ident, K-::, K-super, K-crate, K-self, K-number, K-paren, K-paren-end, K-bracket, K-bracket-end, K-brace, K-brace-end, K-comma, K-dot, K-semi, K-:, K-=, K-!, K-dash, K-?, K-label, K-#, K-<, K->, K-||, K-|, K-as, K-dotdot, K-dotdot=, K-=>, K-underscore, K-OpenEmpty, K-CloseEmpty, K-TemplateString, K-async, K-await, K-break, K-const, K-continue, K-default, K-else, K-enum, K-fn, K-for, K-if, K-impl, K-in, K-let, K-loop, K-match, K-mod, K-move, K-pub, K-return, K-select, K-struct, K-use, K-while, K-yield}
 use Rattle.definition.specs.Kinds.{Root, Expr, Error, Local, Item, ItemConst, ItemEnum, ItemFileMod, ItemFn, ItemImpl, ItemMod, ItemStruct, ItemUse, ItemUseGroup, ItemUsePath, InnerAttribute, Attribute, TokenStream, Modifiers, ModifierSuper, ModifierSelf, ModifierCrate, ModifierIn, EmptyBody, StructBody, TupleBody, Field, Variant, FnArgs, Pat, PatArray, PatIgnore, PatObject, PatTuple, AnonymousObjectKey, Path, PathGenerics, Lit, TemplateString, Block, BlockBody, Condition, ClosureArguments, ExprArray, ExprAssign, ExprAwait, ExprBinary, ExprBreak, ExprCall, ExprChain, ExprClosure, ExprContinue, ExprElse, ExprElseIf, ExprEmptyGroup, ExprField, ExprFor, ExprGroup, ExprIf, ExprIndex, ExprLoop, ExprMacroCall, ExprMatch, ExprMatchArm, ExprObject, ExprOperator, ExprRange, ExprRangeFrom, ExprRangeFull, ExprRangeInclusive, ExprRangeTo, ExprRangeToInclusive, ExprReturn, ExprSelect, ExprSelectArm, ExprTry, ExprTuple, ExprUnary, ExprWhile, ExprYield}
-use Rattle.definition.specs.Classes.{glues, allows, isObjectKey, isLit, isPathComponent, isStmtRecovering, isPat, isExprWith, isRange, kindIsCallable, isUnary, isUsePart, isUsePath, isPatOrRest, isSelectArm, isBlockEnd, treated}
+use Rattle.definition.specs.Classes.{glues, allows, isObjectKey, isLit, isPathComponent, isStmtRecovering, isPat, isExprWith, isRange, linked, isUnary, isUsePart, isUsePath, isPatOrRest, isSelectArm, inBlock, isSome, treated}
 use Rattle.definition.specs.Operators.{Op, from-slice, isNone, isBelow, isTighter, clashes}
 use Rattle.definition.specs.Prog.{Prog, nth, glued, here, flush, bump, close, stop, enter, ret, _>>=_, _>>_, if_then_else_, checkpoint, loop, skip, refuse, Rule, stmt-rule, item-use-rule, pat-rule, path-rule, outer-rule, binary-rule}
 
@@ -236,13 +236,6 @@ modifiers = checkpoint do
 abbrev pub is-pat : Prog Bool
 is-pat = next-glued isPat
 
--- parenthesized (1384); the Rust hands over two function pointers
-unfoldable pub parenthesized-item : Prog (Unit {0}) → Prog (Unit {0})
-parenthesized-item parser = parser >> take-while K-comma
-
-unfoldable pub parenthesized : Prog Bool → Prog (Unit {0}) → ℕ → Prog (Unit {0})
-parenthesized is parser end = bump >> while is (parenthesized-item parser) >> take-if end
-
 -- pat_parens (1363)
 unfoldable pub pat-or-rest : Prog (Unit {0})
 pat-or-rest = do
@@ -316,6 +309,10 @@ pat-body = checkpoint do
   g ← glued
   pat-kind k g
   close Pat
+
+-- the patterns of a closure or a function
+unfoldable pub pat-list : Prog (Unit {0})
+pat-list = while is-pat (pat >> take-while K-comma)
 
 -- ## Items that hold no expression
 
@@ -417,9 +414,28 @@ expr-if-any brace range = do
   b ← is-expr-with brace range
   when b (expr-with brace range Yes ErrorCx)
 
+-- parenthesized (1384): its function pointers are a mode, expressions or patterns
+abbrev pub Exprs : Bool
+Exprs = true
+
+abbrev pub Pats : Bool
+Pats = false
+
+unfoldable pub expr-list : Prog (Unit {0})
+expr-list = while is-expr (expr >> take-while K-comma)
+
+unfoldable pub items : Bool → Prog (Unit {0})
+items mode = if mode then expr-list else pat-list
+
+unfoldable pub parenthesized : Bool → ℕ → Prog (Unit {0})
+parenthesized mode end = bump >> items mode >> take-if end
+
 -- block_with (1347), block (1339)
+unfoldable pub block-stmts : Prog (Unit {0})
+block-stmts = while (next inBlock) stmt
+
 unfoldable pub block-body : Prog (Unit {0})
-block-body = checkpoint (while (next (λ k. not (isBlockEnd k))) stmt >> close BlockBody)
+block-body = checkpoint (block-stmts >> close BlockBody)
 
 unfoldable pub block-open : Prog (Unit {0})
 block-open = do
@@ -462,8 +478,11 @@ else-branch = checkpoint do
   block
   if b then close ExprElseIf else close ExprElse
 
+unfoldable pub else-branches : Prog (Unit {0})
+else-branches = while (next-is K-else) else-branch
+
 unfoldable pub expr-if : Prog (Unit {0})
-expr-if = bump >> condition >> block >> while (next-is K-else) else-branch
+expr-if = bump >> condition >> block >> else-branches
 
 -- expr_while (1100), expr_loop (1108), expr_for (1115)
 unfoldable pub expr-while : Prog (Unit {0})
@@ -493,15 +512,18 @@ match-case = checkpoint (pat >> expr-after K-if >> expr-after K-=> >> close Expr
 unfoldable pub match-arm : Prog (Unit {0})
 match-arm = match-case >> take-while K-comma
 
-unfoldable pub arms : Prog Bool → Prog (Unit {0}) → Prog (Unit {0})
-arms is arm = bump >> while is arm >> take-if K-brace-end
+unfoldable pub match-list : Prog (Unit {0})
+match-list = while is-pat match-arm
+
+unfoldable pub match-arms : Prog (Unit {0})
+match-arms = bump >> match-list >> take-if K-brace-end
 
 unfoldable pub expr-match : Prog (Unit {0})
 expr-match = do
   bump
   expr-with No Yes Yes ErrorCx
   b ← next-is K-brace
-  when b (arms is-pat match-arm)
+  when b match-arms
 
 -- expr_select (1161)
 unfoldable pub select-pat : Prog (Unit {0})
@@ -515,11 +537,17 @@ select-case = checkpoint (select-pat >> expr-after K-=> >> close ExprSelectArm)
 unfoldable pub select-arm : Prog (Unit {0})
 select-arm = select-case >> take-while K-comma
 
+unfoldable pub select-list : Prog (Unit {0})
+select-list = while (next-glued isSelectArm) select-arm
+
+unfoldable pub select-arms : Prog (Unit {0})
+select-arms = bump >> select-list >> take-if K-brace-end
+
 unfoldable pub expr-select : Prog (Unit {0})
 expr-select = do
   bump
   b ← next-is K-brace
-  when b (arms (next-glued isSelectArm) select-arm)
+  when b select-arms
 
 -- empty_group (998), expr_tuple_or_group (1006), expr_object (1025)
 unfoldable pub empty-group : Prog ℕ
@@ -530,25 +558,34 @@ tuple-turn is-tuple = do
   b ← is-expr
   if b then (expr >> bump-while K-comma >>= λ c. ret (inl (is-tuple || c))) else ret (inr is-tuple)
 
+unfoldable pub tuple-items : Prog Bool
+tuple-items = loop tuple-turn false
+
 unfoldable pub expr-tuple-or-group : Prog ℕ
 expr-tuple-or-group = do
   bump
-  is-tuple ← loop tuple-turn false
+  is-tuple ← tuple-items
   take-if K-paren-end
   if is-tuple then ret ExprTuple else ret ExprGroup
 
 unfoldable pub object-field : Prog (Unit {0})
 object-field = bump >> expr-after K-: >> take-while K-comma
 
+unfoldable pub object-fields : Prog (Unit {0})
+object-fields = while (next isObjectKey) object-field
+
 unfoldable pub expr-object : Prog (Unit {0})
-expr-object = bump >> while (next isObjectKey) object-field >> take-if K-brace-end
+expr-object = bump >> object-fields >> take-if K-brace-end
 
 -- recover (16, 143): the end of the statement is looked for, or refusal 6
 abbrev pub is-stmt-recovering : Prog Bool
 is-stmt-recovering = nth 0 >>= λ k. nth 1 >>= λ j. ret (isStmtRecovering k j)
 
+unfoldable pub recovery : Prog (Unit {0})
+recovery = while is-stmt-recovering bump
+
 unfoldable pub recover : Bool → Prog (Unit {0})
-recover cx = if cx then while is-stmt-recovering bump else refuse 6
+recover cx = if cx then recovery else refuse 6
 
 -- expr_primary (756): a case ends with its kind closed over the rule's rows, but for a plain path
 abbrev pub finish : ℕ → Prog ℕ
@@ -567,11 +604,8 @@ primary-path brace = do
       else if glues K-! K-brace k g then macro-call braces
       else ret Path
 
-unfoldable pub primary-closure : Prog (Unit {0}) → Bool → Bool → Bool → Prog ℕ
-primary-closure arguments brace range cx = arguments >> expr-with brace range Yes cx >> finish ExprClosure
-
 unfoldable pub closure-arguments : Prog (Unit {0})
-closure-arguments = checkpoint (parenthesized is-pat pat K-| >> close ClosureArguments)
+closure-arguments = checkpoint (parenthesized Pats K-| >> close ClosureArguments)
 
 unfoldable pub range-to : Bool → Prog ℕ
 range-to brace = do
@@ -593,40 +627,61 @@ primary-last brace range cx k g =
     else if glues K-# K-brace k g then anonymous-object
     else (recover cx >> finish Error)
 
--- the cases that begin with a word
+-- the cases that begin with a word, in the Rust's order
+unfoldable pub primary-block : Bool → Bool → Bool → ℕ → ℕ → Prog ℕ
+primary-block brace range cx k g =
+    if eqb k K-for then (expr-for >> finish ExprFor)
+    else if eqb k K-select then (expr-select >> finish ExprSelect)
+    else if eqb k K-match then (expr-match >> finish ExprMatch)
+    else primary-last brace range cx k g
+
+unfoldable pub primary-give : Bool → Bool → Bool → ℕ → ℕ → Prog ℕ
+primary-give brace range cx k g =
+    if eqb k K-return then (bump >> expr-if-any brace range >> finish ExprReturn)
+    else if eqb k K-yield then (bump >> expr-if-any brace range >> finish ExprYield)
+    else primary-block brace range cx k g
+
+unfoldable pub primary-jump : Bool → Bool → Bool → ℕ → ℕ → Prog ℕ
+primary-jump brace range cx k g =
+    if eqb k K-break then (bump >> labels >> expr-if-any brace range >> finish ExprBreak)
+    else if eqb k K-continue then (bump >> labels >> finish ExprContinue)
+    else primary-give brace range cx k g
+
 unfoldable pub primary-word : Bool → Bool → Bool → ℕ → ℕ → Prog ℕ
 primary-word brace range cx k g =
     if eqb k K-if then (expr-if >> finish ExprIf)
     else if eqb k K-while then (expr-while >> finish ExprWhile)
     else if eqb k K-loop then (expr-loop >> finish ExprLoop)
-    else if eqb k K-break then (bump >> labels >> expr-if-any brace range >> finish ExprBreak)
-    else if eqb k K-continue then (bump >> labels >> finish ExprContinue)
-    else if eqb k K-return then (bump >> expr-if-any brace range >> finish ExprReturn)
-    else if eqb k K-yield then (bump >> expr-if-any brace range >> finish ExprYield)
-    else if eqb k K-for then (expr-for >> finish ExprFor)
-    else if eqb k K-select then (expr-select >> finish ExprSelect)
-    else if eqb k K-match then (expr-match >> finish ExprMatch)
-    else primary-last brace range cx k g
+    else primary-jump brace range cx k g
 
--- closures and unary operators
-unfoldable pub primary-prefix : Bool → Bool → Bool → ℕ → ℕ → Prog ℕ
-primary-prefix brace range cx k g =
-    if eqb k K-|| then primary-closure (push ClosureArguments) brace range cx
-    else if eqb k K-| then primary-closure closure-arguments brace range cx
-    else if glues K-dash K-number k g then (bump >> bump >> finish Lit)
+-- a negative number, unary operators
+unfoldable pub primary-unary : Bool → Bool → Bool → ℕ → ℕ → Prog ℕ
+primary-unary brace range cx k g =
+    if glues K-dash K-number k g then (bump >> bump >> finish Lit)
     else if isUnary k then (bump >> outer-expr-with brace range No cx >> finish ExprUnary)
     else primary-word brace range cx k g
+
+-- closures
+unfoldable pub primary-prefix : Bool → Bool → Bool → ℕ → ℕ → Prog ℕ
+primary-prefix brace range cx k g =
+    if eqb k K-|| then (push ClosureArguments >> expr-with brace range Yes cx >> finish ExprClosure)
+    else if eqb k K-| then (closure-arguments >> expr-with brace range Yes cx >> finish ExprClosure)
+    else primary-unary brace range cx k g
+
+unfoldable pub primary-group : Bool → Bool → Bool → ℕ → ℕ → Prog ℕ
+primary-group brace range cx k g =
+    if eqb k K-bracket then (parenthesized Exprs K-bracket-end >> finish ExprArray)
+    else if eqb k K-brace then (block-with >> finish Block)
+    else if eqb k K-TemplateString then (bump >> finish TemplateString)
+    else primary-prefix brace range cx k g
 
 unfoldable pub primary-kind : Bool → Bool → Bool → ℕ → ℕ → Prog ℕ
 primary-kind brace range cx k g =
     if isLit k then (bump >> finish Lit)
     else if isPathComponent k then primary-path brace
-    else if eqb k K-OpenEmpty then (empty-group >>= finish)
-    else if eqb k K-paren then (expr-tuple-or-group >>= finish)
-    else if eqb k K-bracket then (parenthesized is-expr expr K-bracket-end >> finish ExprArray)
-    else if eqb k K-brace then (block-with >> finish Block)
-    else if eqb k K-TemplateString then (bump >> finish TemplateString)
-    else primary-prefix brace range cx k g
+    else if eqb k K-OpenEmpty then (empty-group >>= λ kind. finish kind)
+    else if eqb k K-paren then (expr-tuple-or-group >>= λ kind. finish kind)
+    else primary-group brace range cx k g
 
 unfoldable pub expr-primary : Bool → Bool → Bool → Prog ℕ
 expr-primary brace range cx = checkpoint do
@@ -646,18 +701,24 @@ field-link = do
 
 unfoldable pub chain-link : ℕ → ℕ → Prog ℕ
 chain-link kind k =
-    if allows (kindIsCallable kind) K-bracket k then (bump >> expr >> take-if K-bracket-end >> ret ExprIndex)
-    else if allows (kindIsCallable kind) K-paren k then (parenthesized is-expr expr K-paren-end >> ret ExprCall)
+    if linked kind K-bracket k then (bump >> expr >> take-if K-bracket-end >> ret ExprIndex)
+    else if linked kind K-paren k then (parenthesized Exprs K-paren-end >> ret ExprCall)
     else if eqb k K-? then (bump >> ret ExprTry)
     else if eqb k K-dot then field-link
     else ret 0
 
--- The mark `before`, which the Rust takes before the first link and after each: here at the head of each turn. The kind and has_chain go round.
-unfoldable pub chain-turn : ℕ × Bool → Prog ((ℕ × Bool) ⊎ (ℕ × Bool))
-chain-turn c = checkpoint do
+-- A link, over the rows since the mark `before`: its kind, or 0. (The Rust takes the mark before the first link and after each.)
+unfoldable pub chain-step : ℕ → Prog ℕ
+chain-step kind = checkpoint do
   k ← peek
-  kind ← chain-link (c .0) k
-  if eqb kind 0 then ret (inr c) else (close kind >> ret (inl (kind, true)))
+  j ← chain-link kind k
+  if eqb j 0 then ret 0 else finish j
+
+-- the kind and has_chain go round
+unfoldable pub chain-turn : ℕ × Bool → Prog ((ℕ × Bool) ⊎ (ℕ × Bool))
+chain-turn c = do
+  kind ← chain-step (c .0)
+  if eqb kind 0 then ret (inr c) else ret (inl (kind, true))
 
 -- it closes over the rows of `outer_expr_with`
 unfoldable pub expr-chain : ℕ → Prog ℕ
@@ -762,7 +823,7 @@ local cx = bump >> pat >> take-if K-= >> expr-with Yes Yes Yes cx
 
 -- item_fn (484)
 unfoldable pub fn-arg-list : Prog (Unit {0})
-fn-arg-list = checkpoint (bump >> take-while K-comma >> while is-pat (parenthesized-item pat) >> take-if K-paren-end >> close FnArgs)
+fn-arg-list = checkpoint (bump >> take-while K-comma >> pat-list >> take-if K-paren-end >> close FnArgs)
 
 unfoldable pub fn-args : Prog (Unit {0})
 fn-args = do
@@ -801,25 +862,31 @@ stmt-expr = do
   kind ← outer-expr-with Yes Yes Yes StmtCx
   if eqb kind Error then ret Error else ret Expr
 
-unfoldable pub stmt-item : ℕ → Prog (Unit {0}) → Prog ℕ
-stmt-item kind item = item >> close kind >> ret Item
+unfoldable pub stmt-end : ℕ → Prog ℕ
+stmt-end kind = close kind >> ret Item
 
 unfoldable pub stmt-mod : Prog ℕ
 stmt-mod = do
   b ← item-mod
-  if b then (close ItemMod >> ret Item) else (close ItemFileMod >> ret Item)
+  if b then stmt-end ItemMod else stmt-end ItemFileMod
+
+unfoldable pub stmt-value : Bool → ℕ → Prog ℕ
+stmt-value is-const k = if allows is-const K-ident k then (item-const >> stmt-end ItemConst) else stmt-expr
+
+unfoldable pub stmt-block : Bool → ℕ → Prog ℕ
+stmt-block is-const k =
+    if eqb k K-fn then (item-fn >> stmt-end ItemFn)
+    else if eqb k K-impl then (item-impl >> stmt-end ItemImpl)
+    else if eqb k K-mod then stmt-mod
+    else stmt-value is-const k
 
 unfoldable pub stmt-kind : Bool → ℕ → Prog ℕ
 stmt-kind is-const k =
     if eqb k K-let then (local StmtCx >> ret Local)
-    else if eqb k K-use then stmt-item ItemUse item-use
-    else if eqb k K-struct then stmt-item ItemStruct item-struct
-    else if eqb k K-enum then stmt-item ItemEnum item-enum
-    else if eqb k K-fn then stmt-item ItemFn item-fn
-    else if eqb k K-impl then stmt-item ItemImpl item-impl
-    else if eqb k K-mod then stmt-mod
-    else if allows is-const K-ident k then stmt-item ItemConst item-const
-    else stmt-expr
+    else if eqb k K-use then (item-use >> stmt-end ItemUse)
+    else if eqb k K-struct then (item-struct >> stmt-end ItemStruct)
+    else if eqb k K-enum then (item-enum >> stmt-end ItemEnum)
+    else stmt-block is-const k
 
 unfoldable pub stmt-inner : Prog ℕ
 stmt-inner = checkpoint do
@@ -855,7 +922,7 @@ grammar (binary-rule op least brace cx) = binary-body op least brace cx >>= λ a
 
 -- An entry's `open(Root)` marks row 0, and its `close` closes over all rows.
 abbrev pub not-eof : Prog Bool
-not-eof = next (λ k. not (eqb k Eof))
+not-eof = next isSome
 
 abbrev pub close-root : Prog (Unit {0})
 close-root = flush >> close Root

@@ -2,7 +2,7 @@
 // A test is one expression with no branch, so that its proof is one computed test too; neighbours of docs/KINDS.md are compared as a range.
 // k is a kind, g the kind glued to it, j the second next.
 ghost use mathlib.Core.Path.{_≡_};
-ghost use Rattle.definition.specs.Classes.{glues as gluing, allows as allowing, isToken, treated as treatedAs, isTrivia, isObjectKey, isLit, isPathComponent, isStmtRecovering, isPat, isExprWith, isRange, kindIsCallable, isUnary, isUsePart, isUsePath, isPatOrRest, isSelectArm, isBlockEnd};
+ghost use Rattle.definition.specs.Classes.{glues as gluing, allows as allowing, isToken, treated as treatedAs, isTrivia, isObjectKey, isLit, isPathComponent, isStmtRecovering, isPat, isExprWith, isRange, kindIsCallable, linked as linking, isUnary, isUsePart, isUsePath, isPatOrRest, isSelectArm, inBlock, isSome};
 ghost use Rattle.kinds.specs.Sets.{hasBit};
 use super::*;
 
@@ -147,6 +147,13 @@ pub fn kind_is_callable(kind: u8) -> bool
     (kind != EXPR_FOR) & (kind != EXPR_WHILE)
 }
 
+// A bracket of kind j that may follow an expression of that kind.
+pub fn linked(kind: u8, j: u8, k: u8) -> bool
+    ensures { λ r. ⌜ r ≡ linking kind j k ⌝ }
+{
+    (k == j) & kind_is_callable(kind)
+}
+
 pub fn is_unary(k: u8) -> bool
     ensures { λ r. ⌜ r ≡ isUnary k ⌝ }
 {
@@ -177,8 +184,15 @@ pub fn is_select_arm(k: u8, g: u8) -> bool
     is_pat(k, g) | (k == DEFAULT)
 }
 
-pub fn is_block_end(k: u8) -> bool
-    ensures { λ r. ⌜ r ≡ isBlockEnd k ⌝ }
+pub fn in_block(k: u8) -> bool
+    ensures { λ r. ⌜ r ≡ inBlock k ⌝ }
 {
-    (k == EOF) | (k == BRACE_END)
+    !((k == EOF) | (k == BRACE_END))
+}
+
+// A token is left.
+pub fn is_some(k: u8) -> bool
+    ensures { λ r. ⌜ r ≡ isSome k ⌝ }
+{
+    k != EOF
 }

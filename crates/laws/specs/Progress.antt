@@ -16,8 +16,8 @@ use Rattle.definition.specs.Kinds.{Eof, K-semi}
 use Rattle.definition.specs.Tape.{In, State, Out, ok, refused, andThen, choose, guard, hereAt, nthAt, gluedAt, flushAt, bumpAt, closeAt}
 use Rattle.definition.specs.Prog.{Prog, done, seq, nth, glued, here, flush, bump, scope, close, stop, enter, test, repeat, Rule, left, turn, eval, call}
 use Rattle.definition.specs.Operators.{Op, from-slice, isNone, isBelow, isTighter, bindings, bindingIn}
-use Rattle.definition.specs.Classes.{among, glues, allows, isObjectKey, isLit, isPathComponent, isStmtRecovering, isPat, isUnary, isUsePath, isPatOrRest, isSelectArm}
-use Rattle.definition.specs.Grammar.{grammar, ErrorCx, bump-if, bump-while, push, while-turn, stmt, item-use, pat, path, outer-expr-with, expr-binary, inner-attribute, inner-attributes, attribute, attributes, label, labels, generic-path, generics, path-segment, path-body, path-segments, modifier-pub, modifiers, parenthesized-item, parenthesized, pat-or-rest, pat-item, pat-parens, pat-object-key, pat-negative, pat-path, pat-group, pat-anonymous, pat-kind, pat-body, field, use-item, use-path, use-group, item-use-body, variant-item, variant, expr-with, expr, block-open, block-with, else-branch, expr-if, expr-while, expr-loop, expr-for, match-case, match-arm, expr-match, select-pat, select-case, select-arm, expr-select, empty-group, expr-tuple-or-group, object-field, recover, primary-path, primary-closure, closure-arguments, range-to, range-to-inclusive, anonymous-object, primary-last, primary-word, primary-prefix, primary-kind, expr-primary, field-link, chain-link, advance, nest, operator, binary-turn, binary-body, outer-body, impl-path, stmt-outer, stmt-body, separated}
+use Rattle.definition.specs.Classes.{among, glues, allows, linked, isObjectKey, isLit, isPathComponent, isStmtRecovering, isPat, isUnary, isUsePath, isPatOrRest, isSelectArm}
+use Rattle.definition.specs.Grammar.{grammar, ErrorCx, bump-if, bump-while, push, while-turn, stmt, item-use, pat, path, outer-expr-with, expr-binary, inner-attribute, inner-attributes, attribute, attributes, label, labels, generic-path, generics, path-segment, path-body, path-segments, modifier-pub, modifiers, parenthesized, pat-or-rest, pat-item, pat-parens, pat-object-key, pat-negative, pat-path, pat-group, pat-anonymous, pat-kind, pat-body, field, use-item, use-path, use-group, item-use-body, variant-item, variant, expr-with, expr, block-open, block-with, else-branch, expr-if, expr-while, expr-loop, expr-for, match-case, match-arm, expr-match, select-pat, select-case, select-arm, expr-select, empty-group, expr-tuple-or-group, object-field, recover, primary-path, closure-arguments, range-to, range-to-inclusive, anonymous-object, primary-last, primary-block, primary-give, primary-jump, primary-word, primary-unary, primary-prefix, primary-group, primary-kind, expr-primary, field-link, chain-link, chain-step, advance, nest, operator, binary-turn, binary-body, outer-body, impl-path, stmt-outer, stmt-body, separated}
 use Rattle.definition.specs.Parse.{run}
 use Rattle.laws.specs.Kept.{After}
 use Rattle.laws.specs.Unroll.{unroll}
@@ -430,10 +430,6 @@ module _ (i : In) (d m : ℕ) (s : State) (h : isPat (nthAt i 0 s) (gluedAt i s)
   pub pat-further : After Further s (run i d m pat s)
   pat-further = further i d m pat s (pat-stays i s _ h)
 
-  pub parenthesized-pat-further : After Further s (run i d m (parenthesized-item pat) s)
-  unfolding Stays parenthesized-item
-  parenthesized-pat-further = further i d m (parenthesized-item pat) s (pat-stays i s _ h)
-
   pub match-case-further : After Further s (run i d m match-case s)
   unfolding Stays match-case
   match-case-further = further i d m match-case s (pat-stays i s _ h)
@@ -471,7 +467,7 @@ module _ (i : In) (s : State) (C : Entered) (K : ℕ → Type 0) (brace range : 
       (λ y. absurd (false≢true y), λ n. tt))))
 
   word-stays : Stays i s C (primary-word brace range ErrorCx (nthAt i 0 s) (gluedAt i s)) K
-  unfolding Stays primary-word expr-if expr-while expr-loop expr-for expr-select expr-match
+  unfolding Stays primary-word primary-jump primary-give primary-block expr-if expr-while expr-loop expr-for expr-select expr-match
   word-stays =
       token (λ y z. against y (rw z)) (λ n1.
       token (λ y z. against y (rw z)) (λ n2.
@@ -486,7 +482,7 @@ module _ (i : In) (s : State) (C : Entered) (K : ℕ → Type 0) (brace range : 
       last-stays))))))))))
 
   prefix-stays : Stays i s C (primary-prefix brace range ErrorCx (nthAt i 0 s) (gluedAt i s)) K
-  unfolding Stays primary-prefix primary-closure closure-arguments parenthesized push isUnary glues among
+  unfolding Stays primary-prefix primary-unary closure-arguments parenthesized push isUnary glues among
   prefix-stays =
       token (λ y z. against y (rw z)) (λ n1.
       token (λ y z. against y (rw z)) (λ n2.
@@ -497,7 +493,7 @@ module _ (i : In) (s : State) (C : Entered) (K : ℕ → Type 0) (brace range : 
 module _ (i : In) (s : State) where
   kind-stays : (C : Entered) (K : ℕ → Type 0) (brace range : Bool) →
       Stays i s (Deeper i s C) (primary-kind brace range ErrorCx (nthAt i 0 s) (gluedAt i s)) K
-  unfolding Stays primary-kind primary-path empty-group expr-tuple-or-group parenthesized block-with block-open bump-if isLit among
+  unfolding Stays primary-kind primary-group primary-path empty-group expr-tuple-or-group parenthesized block-with block-open bump-if isLit among
   kind-stays C K brace range =
       token (λ y z. against y (rw z)) (λ n1.
       way (λ y. path-stays i s C _ y) (λ n2.
@@ -528,10 +524,6 @@ module _ (i : In) (d m : ℕ) (s : State) where
   pub expr-further : After Further s (run i d m expr s)
   expr-further = expr-with-further true true true
 
-  pub parenthesized-expr-further : After Further s (run i d m (parenthesized-item expr) s)
-  unfolding Stays parenthesized-item
-  parenthesized-expr-further = further i d m (parenthesized-item expr) s (expr-stays i s _ true true true)
-
   pub separated-further : (separator : ℕ) → After Further s (run i d m (separated separator) s)
   unfolding Stays separated
   separated-further separator = further i d m (separated separator) s (expr-stays i s _ true true true)
@@ -550,18 +542,31 @@ module _ (i : In) (d m : ℕ) (s : State) where
 
 -- ## Links and operators
 
-link-stays : (i : In) (kind : ℕ) (s : State) → Stays i s (Deep i s) (chain-link kind (nthAt i 0 s)) (λ b. eqb b 0 ≡ true)
-unfolding Stays chain-link parenthesized field-link allows
-link-stays i kind s =
+link-stays : (i : In) (kind : ℕ) (s : State) (K : ℕ → Type 0) → K 0 → Stays i s (Deep i s) (chain-link kind (nthAt i 0 s)) K
+unfolding Stays chain-link parenthesized field-link linked
+link-stays i kind s K none =
     token (λ y z. against y (rw z)) (λ n1.
     token (λ y z. against y (rw z)) (λ n2.
     token (λ y z. against y (rw z)) (λ n3.
-    token (λ y z. against y (rw z)) (λ n4. refl))))
+    token (λ y z. against y (rw z)) (λ n4. none))))
+
+step-stays : (i : In) (kind : ℕ) (s : State) → Stays i s (Deep i s) (chain-step kind) (λ b. eqb b 0 ≡ true)
+unfolding Stays chain-step
+step-stays i kind s = link-stays i kind s _ (λ y. refl, λ n. absurd (true≢false n))
 
 -- a link that is one comes further
 pub chain-link-further : (i : In) (d m kind : ℕ) (s t : State) (a : ℕ) → run i d m (chain-link kind (nthAt i 0 s)) s ≡ ok a t → eqb a 0 ≡ false → Further s t
 unfolding Further
-chain-link-further i d m kind s t a e h = go (subst (Ends s (λ b. eqb b 0 ≡ true)) e (stays i d m (chain-link kind (nthAt i 0 s)) _ s (link-stays i kind s)))
+chain-link-further i d m kind s t a e h = go (subst (Ends s (λ b. eqb b 0 ≡ true)) e (stays i d m (chain-link kind (nthAt i 0 s)) _ s (link-stays i kind s _ refl)))
+  where
+    go : Ends s (λ b. eqb b 0 ≡ true) (ok a t) → s .at < t .at
+    go (inl l) = l
+    go (inr k) = absurd (against (k .1) h)
+
+-- so does a step of a chain that has a link
+pub chain-step-further : (i : In) (d m kind : ℕ) (s t : State) (a : ℕ) → run i d m (chain-step kind) s ≡ ok a t → eqb a 0 ≡ false → Further s t
+unfolding Further
+chain-step-further i d m kind s t a e h = go (subst (Ends s (λ b. eqb b 0 ≡ true)) e (stays i d m (chain-step kind) _ s (step-stays i kind s)))
   where
     go : Ends s (λ b. eqb b 0 ≡ true) (ok a t) → s .at < t .at
     go (inl l) = l

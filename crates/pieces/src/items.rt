@@ -1,14 +1,17 @@
 // Items that hold no expression: items.rt.
 ghost use mathlib.Core.Path.{_≡_};
 ghost use Prim.Native.Nat.{_<_};
-ghost use Rattle.definition.specs.Grammar.{item-struct, any-body, field-body, fields as fieldsProg, field as fieldProg, item-enum, enum-body, variants as variantsProg, variant as variantProg, variant-item, item-use as itemUse, item-use-body as itemUseBody, use-parts as useParts, use-group as useGroup, use-paths as usePaths, use-path as usePath, use-item as useItem};
+ghost use Rattle.definition.specs.Grammar.{item-struct, any-body, field-body, fields as fieldsProg, field as fieldProg, item-enum, enum-body, variants as variantsProg, variant as variantProg, variant-item, item-use as itemUse, item-use-body as itemUseBody, use-parts as useParts, use-group as useGroup, use-paths as usePaths, use-path as usePath, use-item as useItem, fn-args, fn-arg-list, impl-path};
 ghost use Rattle.tape.specs.View.{said, Ready, Marked, Step, Ran};
+use super::paths;
+use super::patterns;
 use kinds::AS;
 use kinds::BRACE;
 use kinds::BRACE_END;
 use kinds::COMMA;
 use kinds::EMPTY_BODY;
 use kinds::FIELD;
+use kinds::FN_ARGS;
 use kinds::IDENT;
 use kinds::ITEM_USE_GROUP;
 use kinds::ITEM_USE_PATH;
@@ -304,4 +307,54 @@ fn use_item(tape: Tape, kinds: &[u8], lens: &[u32], table: &mut [u32]) -> Tape
         return t;
     }
     t.close_at(c, ITEM_USE_PATH, kinds, lens, table)
+}
+
+// The arguments of item_fn.
+pub fn fn_args(tape: Tape, kinds: &[u8], lens: &[u32], table: &mut [u32]) -> Tape
+    requires { ⌜ Ready tape (now kinds) (now lens) (now table) ⌝ }
+    ensures { λ r. ⌜ Ran fn-args tt tape r (now (kinds .entry)) (now (lens .entry)) (now (table .entry)) (now (table .exit)) ⌝ }
+{
+    if tape.peek(kinds) == PAREN {
+        return fn_arg_list(tape, kinds, lens, table);
+    }
+    tape
+}
+
+fn fn_arg_list(tape: Tape, kinds: &[u8], lens: &[u32], table: &mut [u32]) -> Tape
+    requires { ⌜ Ready tape (now kinds) (now lens) (now table) ⌝ }
+    ensures { λ r. ⌜ Ran fn-arg-list tt tape r (now (kinds .entry)) (now (lens .entry)) (now (table .entry)) (now (table .exit)) ⌝ }
+{
+    let mut t = tape.flush_ws(kinds, lens, table);
+    if t.no != 0 {
+        return t;
+    }
+    let c = t.rows;
+    t = t.bump(kinds, lens, table);
+    if t.no != 0 {
+        return t;
+    }
+    t = t.bump_while(COMMA, kinds, lens, table);
+    if t.no != 0 {
+        return t;
+    }
+    t = patterns::pat_list(t, kinds, lens, table);
+    if t.no != 0 {
+        return t;
+    }
+    t = t.bump_if(PAREN_END, kinds, lens, table);
+    if t.no != 0 {
+        return t;
+    }
+    t.close_at(c, FN_ARGS, kinds, lens, table)
+}
+
+// The path of item_impl.
+pub fn impl_path(tape: Tape, kinds: &[u8], lens: &[u32], table: &mut [u32]) -> Tape
+    requires { ⌜ Ready tape (now kinds) (now lens) (now table) ⌝ }
+    ensures { λ r. ⌜ Ran impl-path tt tape r (now (kinds .entry)) (now (lens .entry)) (now (table .entry)) (now (table .exit)) ⌝ }
+{
+    if kinds::classes::is_path_component(tape.peek(kinds)) {
+        return paths::path(tape, kinds, lens, table);
+    }
+    tape
 }

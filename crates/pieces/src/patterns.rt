@@ -1,7 +1,7 @@
 // Patterns: patterns.rt.
 ghost use mathlib.Core.Path.{_≡_};
 ghost use Prim.Native.Nat.{_<_};
-ghost use Rattle.definition.specs.Grammar.{pat as patProg, pat-body as patBody, pat-kind as patKind, pat-negative as patNegative, pat-path as patPath, pat-group as patGroup, pat-anonymous as patAnonymous, pat-parens as patParens, pat-items as patItems, pat-item as patItem, pat-or-rest as patOrRest, pat-object as patObject, pat-object-items as patObjectItems, pat-object-key as patObjectKey, pat-value as patValue};
+ghost use Rattle.definition.specs.Grammar.{pat as patProg, pat-body as patBody, pat-kind as patKind, pat-negative as patNegative, pat-path as patPath, pat-group as patGroup, pat-anonymous as patAnonymous, pat-parens as patParens, pat-items as patItems, pat-item as patItem, pat-or-rest as patOrRest, pat-object as patObject, pat-object-items as patObjectItems, pat-object-key as patObjectKey, pat-value as patValue, pat-list as patList};
 ghost use Rattle.tape.specs.View.{said, Ready, Marked, Step, Ran};
 use super::paths;
 use super::streams;
@@ -303,6 +303,25 @@ fn pat_value(tape: Tape, kinds: &[u8], lens: &[u32], table: &mut [u32]) -> Tape
     }
     if t.ans == 1 {
         return pat(t, kinds, lens, table);
+    }
+    t
+}
+
+// The patterns of a closure or a function: the loop of parenthesized.
+pub fn pat_list(tape: Tape, kinds: &[u8], lens: &[u32], table: &mut [u32]) -> Tape
+    requires { ⌜ Ready tape (now kinds) (now lens) (now table) ⌝ }
+    ensures { λ r. ⌜ Ran patList tt tape r (now (kinds .entry)) (now (lens .entry)) (now (table .entry)) (now (table .exit)) ⌝ }
+{
+    let mut t = tape;
+    while kinds::classes::is_pat(t.peek(kinds), t.glued(kinds)) {
+        t = pat(t, kinds, lens, table);
+        if t.no != 0 {
+            return t;
+        }
+        t = t.bump_while(COMMA, kinds, lens, table);
+        if t.no != 0 {
+            return t;
+        }
     }
     t
 }

@@ -15,8 +15,8 @@ use Rattle.definition.specs.Parse.{run}
 use Rattle.laws.specs.Kept.{After}
 use Rattle.laws.specs.Looking.{skipped}
 use Rattle.laws.specs.Progress.{Further}
-use Rattle.tape.specs.View.{inOf, stateOf, rowsIn, outOf, Ready, Step, Ran}
-use Rattle.tape.specs.Steps.{went-on, stopped, step-ok, step-went, refusing, refused-tape, Onward}
+use Rattle.tape.specs.View.{inOf, stateOf, rowsIn, outOf, said, Ready, Step, Ran}
+use Rattle.tape.specs.Steps.{went-on, stopped, step-ok, step-went, refusing, refused-tape, Onward, both, cut, nothing}
 use Rattle.tape.specs.declared.Tape.{Tape}
 
 -- the tape with n entries left
@@ -61,6 +61,27 @@ module _ {m : ℕ} {ks ls : List ℕ} {t : Tape} {tab : List ℕ} where
         len = refl;
         left = rw e;
       }
+
+-- a rule that answers yes or no
+pub entered-bool : {m : ℕ} {ks ls : List ℕ} {t : Tape} {tab : List ℕ} {q : Rule} {body : Prog Bool} {r : Tape} {tab′ : List ℕ} →
+    grammar q ≡ seq body (λ b. done (cond b 1 0)) → (t .left ≡ 0 → ⊥) →
+    Step (length (rowsIn (t .rows) tab)) body (said r) (depth (t .left - 1) t) r ks ls tab tab′ →
+    Step m (seq (enter q) (λ n. done (eqb n 1))) (said r) t (depth (t .left) r) ks ls tab tab′
+entered-bool {m} {ks} {ls} {t} {tab} {q} {body} {r} {tab′} e h w = go (r .no) refl
+  where
+    yes-no : (b : Bool) → eqb (cond b 1 0) 1 ≡ b
+    yes-no true = refl
+    yes-no false = refl
+
+    inner : {a : ℕ} → Step (length (rowsIn (t .rows) tab)) (seq body (λ b. done (cond b 1 0))) a (depth (t .left - 1) t) r ks ls tab tab′ →
+        Step m (enter q) a t (depth (t .left) r) ks ls tab tab′
+    inner {a} v = entered h (subst (λ (p : Prog ℕ). Step (length (rowsIn (t .rows) tab)) p a (depth (t .left - 1) t) r ks ls tab tab′) (sym e) v)
+
+    go : (n : ℕ) → r .no ≡ n → Step m (seq (enter q) (λ n. done (eqb n 1))) (said r) t (depth (t .left) r) ks ls tab tab′
+    go zero z =
+        let v = inner (both w z (nothing (w .ready z))) in
+        subst (λ (b : Bool). Step m (seq (enter q) (λ n. done (eqb n 1))) b t (depth (t .left) r) ks ls tab tab′) (yes-no (said r)) (both v z (nothing (v .ready z)))
+    go (suc n) z = cut {a = 0} (inner (cut w (λ y. omega arith))) (λ y. omega arith)
 
 -- ## Progress
 

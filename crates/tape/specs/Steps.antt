@@ -152,6 +152,11 @@ module _ {ks ls : List ℕ} {m : ℕ} where
         (ap (λ (x : ℕ). run (inOf ks ls tab) (t .left) m (f (c x j)) (stateOf t tab)) e ∙
         ap (λ (x : ℕ). run (inOf ks ls tab) (t .left) m (f (c (nthKind 0 (drop (t .at) ks)) x)) (stateOf t tab)) h)
 
+    -- the same where the code has another form of what the two kinds make
+    pub ask-second-as : {A B : Type 0} {k j : ℕ} {c : ℕ → ℕ → B} {o : B} {f : B → Prog A} {a : A} → k ≡ nthKind 0 (drop (t .at) ks) → j ≡ nthKind 1 (drop (t .at) ks) → o ≡ c k j →
+        Step m (f o) a t r ks ls tab tab′ → Step m (seq (seq (nth 0) (λ x. seq (nth 1) (λ y. done (c x y)))) f) a t r ks ls tab tab′
+    ask-second-as {f = f} {a = a} e h q w = ask-second e h (subst (λ (x : _). Step m (f x) a t r ks ls tab tab′) q w)
+
     pub ask-glued : {A B : Type 0} {k g : ℕ} {c : ℕ → ℕ → B} {f : B → Prog A} {a : A} → k ≡ nthKind 0 (drop (t .at) ks) → g ≡ gluedKind (getD ks (skipped (t .at) ks + 1) 0) →
         Step m (f (c k g)) a t r ks ls tab tab′ → Step m (seq (seq (nth 0) (λ x. seq glued (λ y. done (c x y)))) f) a t r ks ls tab tab′
     unfolding run eval andThen nthAt gluedAt hereAt skipped

@@ -1,0 +1,5 @@
+pub mod Promise
+pub mod Round
+pub mod Input
+pub mod Table
+pub mod Whole

@@ -1,0 +1,30 @@
+-- What the functions round the parse ask and ensure.
+-- Assumes nothing.
+use Prim.Native.Nat.{ℕ, _*_, _≤_}
+use mathlib.Core.Path.{_≡_}
+use mathlib.Core.Bool.{Bool}
+use mathlib.Core.List.{List}
+use lib.ListN.{length}
+use Rattle.definition.specs.Tape.{Out, refused}
+use Rattle.definition.specs.Parse.{admitted, start}
+use Rattle.tape.specs.View.{stateOf, Sized, Ready}
+use Rattle.tape.specs.declared.Tape.{Tape}
+use Rattle.entry.specs.declared.Answer.{Answer}
+
+-- refusals 1 to 5, whatever follows them: number 0 where there is none
+pub record Checked (valid : Bool) (ks ls : List ℕ) (r : Answer) : Type 0 where
+  pub passes : r .number ≡ 0 → (k : Unit {0} → Out (Unit {0})) → admitted valid ks ls k ≡ k tt
+  pub stops : (r .number ≡ 0 → ⊥) → (k : Unit {0} → Out (Unit {0})) → admitted valid ks ls k ≡ refused (r .number) (r .place)
+  pub sized : r .number ≡ 0 → Sized ks ls
+  pub no-rows : r .rows ≡ 0
+
+-- a tape from which a parse starts, over any table
+pub record Starts (limit : ℕ) (t : Tape) (ks ls : List ℕ) : Type 0 where
+  pub ready : (tab : List ℕ) → Ready t ks ls tab
+  pub state : (tab : List ℕ) → stateOf t tab ≡ start
+  pub left : t .left ≡ limit
+
+-- the rows lie in the table, and a u32 counts them
+pub record Fitting (t : Tape) (tab : List ℕ) : Type 0 where
+  pub inside : t .no ≡ 0 → 4 * t .rows ≤ length tab
+  pub few : t .no ≡ 0 → t .rows ≤ 4294967295

@@ -1,0 +1,86 @@
+-- A call put together: the tape that starts, and what its answer comes to before and after the parse.
+-- Assumes nothing.
+use Prim.Native.Nat.{ℕ, _/_}
+use mathlib.Core.Path.{_≡_, refl, sym}
+use mathlib.Core.Bool.{Bool, _&&_}
+use mathlib.Core.List.{List}
+use native.Mathlib.Omega.{arith}
+use native.Mathlib.Nat.{min-le-left, min-le-right, mul-div-le}
+use lib.ListN.{length, replicate}
+use lib.Seq.{drop-nil}
+use Rattle.definition.specs.Tape.{In, Row, Out, capacity, leavesLen, startOf}
+use Rattle.definition.specs.Prog.{Prog}
+use Rattle.definition.specs.Parse.{Entry, program, isLimit, parse, isEntry, admitted, run, start}
+use Rattle.laws.specs.Sizes.{total, Fits}
+use Rattle.tape.specs.View.{inOf, stateOf, rowsIn, outOf, Sized, Begins, Step}
+use Rattle.tape.specs.Rows.{length-rows}
+use Rattle.tape.specs.declared.Tape.{Tape}
+use Rattle.entry.specs.declared.Answer.{Answer}
+use Rattle.entry.specs.Promise.{Answers}
+use Rattle.entry.specs.Round.{Checked, Starts, Fitting}
+use Rattle.entry.specs.Table.{refused-answers}
+
+-- ## The start
+
+begins-state : {limit : ℕ} {t : Tape} {ks : List ℕ} (tab : List ℕ) → Begins limit t ks → stateOf t tab ≡ start
+unfolding start rowsIn
+begins-state tab b = rw (b .at, b .byte, b .rows)
+
+fits-start : (i : In) → Fits i start
+unfolding start total leavesLen startOf
+fits-start i =
+    record {
+      rows = omega arith;
+      end = omega arith;
+      byte = refl;
+      leaves = refl;
+      starts = λ m. rw (drop-nil {A = Row} m) (omega arith);
+    }
+
+pub starts : {limit : ℕ} {t : Tape} {ks ls : List ℕ} → Sized ks ls → Begins limit t ks → Starts limit t ks ls
+starts {ks = ks} {ls = ls} s b =
+    record {
+      ready = λ tab. record { going = b .going; sized = s; looks = b .looks; fits = rw (begins-state tab b) (fits-start (inOf ks ls tab)) };
+      state = λ tab. begins-state tab b;
+      left = b .left;
+    }
+
+-- ## A call put together
+
+-- what `finish` asks, of what a rule ensures
+pub fitting : {A : Type 0} {m : ℕ} {p : Prog A} {a : A} {t r : Tape} {ks ls tab tab′ : List ℕ} → Step m p a t r ks ls tab tab′ → Fitting r tab′
+unfolding capacity
+fitting {r = r} {tab′ = tab′} w =
+    record {
+      inside = λ z. omega (arith, w .ready z .fits .rows, length-rows (r .rows) tab′, min-le-left (length tab′ / 4) 4294967295, mul-div-le (length tab′) 4);
+      few = λ z. omega (arith, w .ready z .fits .rows, length-rows (r .rows) tab′, min-le-right (length tab′ / 4) 4294967295);
+    }
+
+module _ {valid : Bool} {ks ls : List ℕ} {a : Answer} (c : Checked valid ks ls a) where
+  -- refused before the parse: `check`'s answer, and a cleared table
+  pub checked-answers : (k : Unit {0} → Out (Unit {0})) {len : ℕ} {tab : List ℕ} → (a .number ≡ 0 → ⊥) → tab ≡ replicate len 0 →
+      Answers (admitted valid ks ls k) len (a .number) (a .place) (a .rows) tab
+  checked-answers k z e = rw (c .no-rows) (refused-answers (c .stops z k) e)
+
+  -- parsed: `finish`'s answer after the program p, from `begin`'s tape
+  pub parsed-answers : {limit number place rows : ℕ} {p : Prog (Unit {0})} {t r : Tape} {tab tab′ tab″ : List ℕ} →
+      a .number ≡ 0 → Starts limit t ks ls → Step 0 p tt t r ks ls tab tab′ → Answers (outOf tt r tab′) (length tab′) number place rows tab″ →
+      Answers (admitted valid ks ls (λ u. run (inOf ks ls tab) limit 0 p start)) (length tab) number place rows tab″
+  parsed-answers {limit} {p = p} {tab = tab} z s w f =
+      rw (c .passes z (λ u. run (inOf ks ls tab) limit 0 p start), sym (s .state tab), sym (s .left), sym (w .is), sym (w .len)) f
+
+-- ## The same of an entry, as a public call ensures it: `valid` is what the code found of limit and entry
+
+module _ (e : Entry) (limit : ℕ) {valid : Bool} (v : valid ≡ isLimit limit && isEntry e) {ks ls : List ℕ} {a : Answer} (c : Checked valid ks ls a) (tab : List ℕ) where
+  parse-is : parse e ks ls (length tab) limit ≡ admitted valid ks ls (λ u. run (inOf ks ls tab) limit 0 (program e) start)
+  unfolding parse
+  parse-is = rw v
+
+  pub entry-refused : {tab′ : List ℕ} → (a .number ≡ 0 → ⊥) → tab′ ≡ replicate (length tab) 0 →
+      Answers (parse e ks ls (length tab) limit) (length tab) (a .number) (a .place) (a .rows) tab′
+  entry-refused z q = rw parse-is (checked-answers c (λ u. run (inOf ks ls tab) limit 0 (program e) start) z q)
+
+  pub entry-parsed : {number place rows : ℕ} {t r : Tape} {tab′ tab″ : List ℕ} →
+      a .number ≡ 0 → Starts limit t ks ls → Step 0 (program e) tt t r ks ls tab tab′ → Answers (outOf tt r tab′) (length tab′) number place rows tab″ →
+      Answers (parse e ks ls (length tab) limit) (length tab) number place rows tab″
+  entry-parsed z s w f = rw parse-is (parsed-answers c z s w f)
