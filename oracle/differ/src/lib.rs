@@ -1,0 +1,25 @@
+//! The proved parser and the oracle on the same lists: number, place, row count
+//! and every element of the table are compared.
+
+#![deny(unsafe_code)]
+
+pub mod all;
+pub mod bench;
+pub mod check;
+mod drive;
+pub mod edges;
+mod lists;
+// Calls into the archive, and a look at the stack that they used.
+#[allow(unsafe_code)]
+pub mod native;
+pub mod options;
+pub mod pair;
+pub mod run;
+mod tally;
+
+/// What a command comes to: its failure is a message.
+pub type Done = Result<(), String>;
+
+/// The deepest lists need more stack than a thread has by itself; both sides
+/// get the same.
+pub const STACK: usize = 64 << 20;

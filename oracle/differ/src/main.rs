@@ -1,0 +1,37 @@
+//! Both sides on the same lists; `README.md` says what each command is for.
+
+use std::process::ExitCode;
+
+use differ::{all, bench, check, edges, run, Done, STACK};
+
+const USAGE: &str = "\
+usage: differ run --count N [--seed S] [--max-tokens M] [--threads T]
+       differ all --length L [--full 1] [--threads T]
+       differ edges
+       differ check FILE
+       differ bench [--rounds R]";
+
+fn main() -> ExitCode {
+    let thread = std::thread::Builder::new().stack_size(STACK).spawn(command);
+    match thread.map(|running| running.join()) {
+        Ok(Ok(Ok(()))) => ExitCode::SUCCESS,
+        Ok(Ok(Err(why))) => {
+            eprintln!("{why}");
+            ExitCode::FAILURE
+        }
+        _ => ExitCode::FAILURE,
+    }
+}
+
+fn command() -> Done {
+    let args: Vec<String> = std::env::args().skip(1).collect();
+    let args: Vec<&str> = args.iter().map(String::as_str).collect();
+    match args.as_slice() {
+        ["run", rest @ ..] => run::command(rest),
+        ["all", rest @ ..] => all::command(rest),
+        ["edges"] => edges::command(),
+        ["check", file] => check::command(file),
+        ["bench", rest @ ..] => bench::command(rest),
+        _ => Err(USAGE.to_owned()),
+    }
+}

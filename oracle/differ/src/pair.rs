@@ -1,0 +1,195 @@
+//! One case on both sides, and what differs.
+
+use std::fmt::Write as _;
+
+use oracle::case::Case;
+use oracle::{tree, Answer, ROW};
+
+use crate::native;
+
+/// Elements on either side of the proved parser's table that it must not touch.
+const GUARD: usize = 16;
+
+/// What the proved parser's table holds beforehand.
+fn noise(at: usize) -> u32 {
+    0xdead_beef_u32.wrapping_add(at as u32)
+}
+
+/// What the oracle's table holds: something else everywhere, so that an element
+/// which both sides leave alone differs too.
+fn other_noise(at: usize) -> u32 {
+    !noise(at)
+}
+
+/// A case for which the two sides do not agree.
+pub struct Difference {
+    pub case: Case,
+    /// Each thing that differs.
+    pub what: String,
+    /// The case with each side's answer, in the oracle's line format.
+    pub oracle_line: String,
+    pub native_line: String,
+}
+
+/// Both sides' tables, kept from case to case.
+#[derive(Default)]
+pub struct Pair {
+    oracle: Vec<u32>,
+    native: Vec<u32>,
+}
+
+impl Pair {
+    /// Answers a case on both sides. Gives the oracle's answer, and what differs.
+    pub fn compare(&mut self, case: &Case) -> (Answer, Option<Difference>) {
+        let want = self.ask_oracle(case);
+        let got = self.ask_native(case);
+        let same = want == got && self.oracle == self.native_table() && self.guards_kept();
+        let difference = (!same).then(|| self.difference(case, &want, &got));
+        (want, difference)
+    }
+
+    /// The case with the proved parser's answer as a line.
+    pub fn native_line(&mut self, case: &Case) -> String {
+        let got = self.ask_native(case);
+        case.line_with(&got, &tree::rows(self.native_table(), got.rows))
+    }
+
+    fn ask_oracle(&mut self, case: &Case) -> Answer {
+        self.oracle.clear();
+        self.oracle.extend((0..case.elements).map(other_noise));
+        oracle::parse(
+            case.entry,
+            &case.kinds,
+            &case.lens,
+            &mut self.oracle,
+            case.separator,
+            case.limit,
+        )
+    }
+
+    fn ask_native(&mut self, case: &Case) -> Answer {
+        self.native.clear();
+        self.native
+            .extend((0..case.elements + 2 * GUARD).map(noise));
+        let end = self.native.len() - GUARD;
+        native::parse(
+            case.entry,
+            &case.kinds,
+            &case.lens,
+            &mut self.native[GUARD..end],
+            case.separator,
+            case.limit,
+        )
+    }
+
+    fn native_table(&self) -> &[u32] {
+        &self.native[GUARD..self.native.len() - GUARD]
+    }
+
+    fn guards_kept(&self) -> bool {
+        let end = self.native.len() - GUARD;
+        let mut outside = (0..GUARD).chain(end..self.native.len());
+        outside.all(|at| self.native[at] == noise(at))
+    }
+
+    fn difference(&self, case: &Case, want: &Answer, got: &Answer) -> Difference {
+        let mut what = answers(want, got);
+        what += &elements(&self.oracle, self.native_table());
+        if !self.guards_kept() {
+            what += "  written outside the table\n";
+        }
+        let line = |answer: &Answer, table: &[u32]| {
+            case.line_with(answer, &tree::rows(table, answer.rows))
+        };
+        Difference {
+            case: case.clone(),
+            what,
+            oracle_line: line(want, &self.oracle),
+            native_line: line(got, self.native_table()),
+        }
+    }
+}
+
+fn answers(want: &Answer, got: &Answer) -> String {
+    let parts = [
+        ("number", want.number, got.number),
+        ("place", want.place, got.place),
+        ("rows", want.rows, got.rows),
+    ];
+    let mut what = String::new();
+    for (name, want, got) in parts {
+        if want != got {
+            writeln!(what, "  {name}: oracle {want}, krosstavel {got}").unwrap();
+        }
+    }
+    what
+}
+
+fn elements(want: &[u32], got: &[u32]) -> String {
+    let differs = |at: &usize| want[*at] != got[*at];
+    let mut differing = (0..want.len()).filter(differs);
+    let Some(at) = differing.next() else {
+        return String::new();
+    };
+    let part = ["kind", "back", "start", "length"][at % ROW];
+    let left = if got[at] == noise(at + GUARD) {
+        " (left as it was)"
+    } else {
+        ""
+    };
+    format!(
+        "  {} elements, the first {at} (row {}, {part}): oracle {}, krosstavel {}{left}\n",
+        1 + differing.count(),
+        at / ROW,
+        want[at],
+        got[at],
+    )
+}
+
+#[cfg(test)]
+mod tests {
+    use super::*;
+
+    const WANT: Answer = Answer {
+        number: 0,
+        place: 0,
+        rows: 2,
+    };
+
+    #[test]
+    fn each_part_of_an_answer_is_named() {
+        let got = |number, place, rows| Answer {
+            number,
+            place,
+            rows,
+        };
+        assert_eq!(answers(&WANT, &WANT), "");
+        assert!(answers(&WANT, &got(6, 0, 2)).contains("number: oracle 0, krosstavel 6"));
+        assert!(answers(&WANT, &got(0, 1, 2)).contains("place: oracle 0, krosstavel 1"));
+        assert!(answers(&WANT, &got(0, 0, 3)).contains("rows: oracle 2, krosstavel 3"));
+    }
+
+    #[test]
+    fn elements_left_alone_are_named() {
+        assert_eq!(elements(&[1, 2, 3], &[1, 2, 3]), "");
+        assert!(elements(&[0; 7], &[0, 0, 0, 0, 0, 9, 9]).contains("2 elements, the first 5"));
+        let stale = [0, noise(1 + GUARD)];
+        assert!(elements(&[0; 2], &stale).contains("left as it was"));
+    }
+
+    #[test]
+    fn a_write_beside_the_table_is_seen() {
+        let mut pair = Pair::default();
+        for (len, at) in [(32, 0), (32, 15), (40, 24), (40, 39)] {
+            pair.native = (0..len).map(noise).collect();
+            assert!(pair.guards_kept());
+            pair.native[at] = 0;
+            assert!(!pair.guards_kept());
+        }
+    }
+
+    #[test]
+    fn no_element_starts_alike() {
+        assert!((0..1000).all(|at| noise(at + GUARD) != other_noise(at)));
+    }
+}
