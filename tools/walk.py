@@ -24,6 +24,7 @@ import programs
 
 ROOT = os.getcwd()
 GRAMMAR = 'crates/definition/specs/Grammar.antt'
+UNFOLDABLE = set(re.findall(r'^unfoldable pub (\S+) :', open(GRAMMAR).read(), re.M))
 NUMBER_TEST = re.compile(r'as-values .*\)((?: \.1){6}) \.0\) 0( → ⊥)?$')
 LOOKS = ('peek', 'glued', 'peek-second')
 WRAPS = {'take-if': 'ends', 'take-while': 'ends'}
@@ -144,6 +145,7 @@ class Walk:
     def __init__(self, fn, places, known, defs, words):
         self.fn, self.places, self.known, self.defs, self.words = fn, places, known, defs, words
         self.inside = False
+        self.opened = []
         self.coded = {f.head for f in known.values() if f.rule} | {'bump', 'flush', 'close'} | set(WRAPS)
         self.tree = self.inlined(defs[fn.head][1])
 
@@ -153,6 +155,7 @@ class Walk:
             return self.inlined(programs.Parser(programs.tokens(given[p[1]])).expr())
         if p[0] == 'call' and p[1] not in self.coded and p[1] in self.defs:
             params, tree = self.defs[p[1]]
+            self.opened.append(p[1])
             return self.inlined(tree, dict(zip(params, p[2])))
         return tuple(self.inlined(x, given) if isinstance(x, tuple) else x for x in p)
 
@@ -178,7 +181,8 @@ class Walk:
             if NUMBER_TEST.search(own):
                 return Element('no' if taken else 'go', field, term, place)
             return Element('if', field, term, place)
-        base = re.sub(r'\d+$', '', field)
+        # a second call of a function has a number behind its name
+        base = field if field in self.known else re.sub(r'\d+$', '', field)
         if base == 'pre':
             return Element('pre', base, term, place)
         if base == 'loop':
@@ -222,6 +226,13 @@ class Walk:
     def inv(self, e):
         return f"{e.term} .inv{' .loop' if 'next' in self.words else ''}"
 
+    def under(self, e, mark):
+        """Where a loop stands, under a mark: any, or the one that its turns close over."""
+        return f"{self.inv(e)} .at" if self.words.get('at') else f'{self.inv(e)} .under {mark}'
+
+    def standing(self, ready, inv):
+        return f'record {{ ready = {ready}; at = {inv} }}' if self.words.get('at') else f'record {{ ready = {ready}; under = λ m. {inv} }}'
+
     def marked(self, els):
         """The mark of the scope that the way is in, or of the caller, is one."""
         start, term = 0, None
@@ -239,7 +250,7 @@ class Walk:
             if e.kind == 'call':
                 term = f'step-marked ({self.step_of(e)}) ({els[n + 1].term} .left) ({term})'
             if e.kind == 'loop':
-                term = f'{self.inv(e)} .under _ .marked ({term})'
+                term = f"{self.under(e, '_')} .marked ({term})"
         return term
 
     def step_of(self, e):
@@ -251,13 +262,13 @@ class Walk:
             if e.kind == 'call':
                 xs.insert(0, f"{e.term} .ensures{'' if self.known[e.name].mark else ' .under 0'} .len")
             if e.kind == 'loop':
-                xs.insert(0, f'{self.inv(e)} .under 0 .len')
+                xs.insert(0, f"{self.under(e, '0')} .len")
         return ' ∙ ('.join(xs) + ')' * (len(xs) - 1) if xs else 'refl'
 
     def lefts(self, els):
         """That as many entries are left as at the start, of each call on the way."""
         return [f"{e.term} .ensures{'' if self.known[e.name].mark else ' .under 0'} .left" for e in els if e.kind == 'call'] + \
-            [f'{self.inv(e)} .under 0 .left' for e in els if e.kind == 'loop']
+            [f"{self.under(e, '0')} .left" for e in els if e.kind == 'loop']
 
     # ### The walk: a term for Step _ P _ .., from element i on; and where it ends
 
@@ -418,7 +429,7 @@ class Walk:
 
     def loop(self, p, els, i):
         i = self.skip(els, i, ('loop',))
-        inv = f'{self.inv(els[i])} .under _'
+        inv = self.under(els[i], '_')
         term, j, how = self.walk(self.turn(p), els, i + 1)
         if how == 'no':
             return f'inv-end ({inv}) (last-cut ({term}) ({self.refused(els)}))', j, 'no'
@@ -473,7 +484,7 @@ class Walk:
                 return term
             return f'record {{ under = λ m. {term} }}'
         if base == 'loop-holds':
-            return self.with_next(f'record {{ ready = {self.ready(els)}; under = λ m. inv-start }}', els)
+            return self.with_next(self.standing(self.ready(els), 'inv-start'), els)
         if base in ('loop-less', 'loop-again'):
             return self.again(base, els)
         return 'search needs'
@@ -486,7 +497,8 @@ class Walk:
         go = [e for e in els if e.kind == 'go'][-1]
         loop = self.find_loop(self.tree)
         term, j, how = self.walk(self.turn(loop), els, n + 1)
-        loop_term = f'record {{ ready = {self.ready(els)}; under = λ m. inv-again ({self.inv(els[n])} .under m) ({term}) ({go.term} .left) ({move}) }}'
+        again = f"inv-again ({self.under(els[n], 'm')}) ({term}) ({go.term} .left) ({move})"
+        loop_term = self.standing(self.ready(els), again)
         return self.with_next(loop_term, els)
 
     def with_next(self, loop_term, els):
@@ -533,7 +545,8 @@ class Walk:
             return self.words['unfold']
         loop = self.find_loop(self.tree)
         more = [] if not loop else ['while-turn'] if loop[0] == 'while' else [loop[1]]
-        return [self.fn.head] + more + (['grammar'] if self.counted() else [])
+        names = [self.fn.head] + more + self.opened + (['grammar'] if self.counted() else [])
+        return [n for n in dict.fromkeys(names) if n in UNFOLDABLE]
 
     def invariant(self):
         if 'inv' in self.words:
@@ -618,9 +631,10 @@ class Walk:
 
 # ## Files
 
-def fill(path, walk, prefix):
-    text = open(path).read()
+def answers(walk, prefix):
+    """Each need's clause: an `unfolding` line where the program is to be seen, and the term."""
     unfolds = ' '.join(walk.unfolds())
+    out = {}
     for need in walk.places.need:
         try:
             term = walk.words.get('needs', {}).get(need)
@@ -629,17 +643,34 @@ def fill(path, walk, prefix):
             print(f'{walk.fn.name} {need}: {e}')
             continue
         base = re.sub(r'-\d+$', '', need)
-        line = f'unfolding {unfolds}\n' if base in ('returns', 'loop-again', 'loop-holds') else ''
-        pat = re.compile(r'(?:^unfolding .*\n)?^(' + re.escape(prefix + need) + r'(?: t)? c(?: κs)?) =.*\n(?:    .*\n)*', re.M)
-        if not pat.search(text):
-            print(f'{walk.fn.name}: no place for {prefix + need}')
-            continue
-        text = pat.sub(lambda m: f'{line}{m.group(1)} =\n    {term}\n', text)
+        out[prefix + need] = (f'unfolding {unfolds}\n' if unfolds and base in ('returns', 'loop-again', 'loop-holds') else '', term)
     inv = walk.invariant()
     if inv:
-        text = re.sub(r'^(' + re.escape(prefix) + r'Inv-loop .*) =.*$', lambda m: f'{m.group(1)} = {inv}', text, flags=re.M)
-        text = re.sub(r'^(' + re.escape(prefix) + r'μ-loop .*) =.*$', lambda m: f'{m.group(1)} = fuel t kinds', text, flags=re.M)
-    open(path, 'w').write(text)
+        out[prefix + 'Inv-loop'], out[prefix + 'μ-loop'] = ('', inv), ('', 'fuel t kinds')
+    return out
+
+
+def fill(path, found):
+    """Puts the clauses into the file, in place of the holes or of what stood there."""
+    lines = open(path).read().split('\n')
+    out, n, left = [], 0, set(found)
+    while n < len(lines):
+        m = re.match(r'(\S+)((?: t)? c(?: κs)?| .*) =', lines[n])
+        if not m or m.group(1) not in found:
+            out.append(lines[n])
+            n += 1
+            continue
+        unfold, term = found[m.group(1)]
+        if out and out[-1].startswith('unfolding '):
+            out.pop()
+        out.append(f'{unfold}{m.group(1)}{m.group(2)} =\n    {term}')
+        left.discard(m.group(1))
+        n += 1
+        while n < len(lines) and lines[n].startswith('    '):
+            n += 1
+    for name in sorted(left):
+        print(f'{path}: no place for {name}')
+    open(path, 'w').write('\n'.join(out))
 
 
 def generated(crate):
@@ -734,8 +765,10 @@ def prove_cycle(crate, folder, path, known, defs, words):
     for n, k in zip(names, members):
         lts = f'{folder}/Rattle.{crate}.proofs/proofs/{sub}/Lts-{n}.antt'
         walks.append(Walk(known[k], Places(lts), known, defs, dict(words.get(k, {}), cycle=set(members))))
+    found = {}
     for k, w in zip(members, walks):
-        fill(path, w, k + '-')
+        found.update(answers(w, k + '-'))
+    fill(path, found)
     head(path, uses(walks))
 
 
@@ -796,7 +829,7 @@ def round_of(crate, folder, only, known, defs, words, done):
             if not f or not f.rule or f.crate != crate or w.get('by-hand') or only and name not in only or not os.path.exists(lts):
                 continue
             walk = Walk(f, Places(lts), known, defs, w)
-            fill(path, walk, '')
+            fill(path, answers(walk, ''))
             head(path, uses([walk]))
         done.add(path)
         fresh += 1

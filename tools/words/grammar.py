@@ -16,15 +16,18 @@ WORDS = {
     # the next operator goes round
     'on': {'use': [LOOKED]},
     'bb': {
-        'inv': 'Binding least brace cx op next any t₀ t kinds lens table₀ table',
+        'inv': 'Binding least brace cx next₀ next any t₀ t kinds lens table₀ table',
         'next': True,
         'move': 'and-on (operator-goes (@args .least) (@operator .ensures .under 0) (@if2 .left) (@loop .inv .next) (sym (@is-below .ensures) ∙ @if1 .left)) (@rd .ensures .under 0) (@if3 .left)',
         'use': [LAWS, LOOKED, OPS],
     },
     'rd': {
-        'inv': 'Tightening op brace cx place next₀ next t₀ t kinds lens table₀ table',
+        'inv': 'Tightening c op brace cx place next₀ next t₀ t kinds lens table₀ table',
         'next': True,
-        'move': 'nest-goes (@args .op) (@args .brace) (@args .cx) (@ne .ensures) (@if4 .left) (@loop .inv .next) (sym (@is-tighter .ensures) ∙ @if3 .taken)',
+        # its turns close over the operand's mark
+        'at': True,
+        'needs': {'refuse-requires': 'here-few (@flush-ws .ensures .under 0 .ready (@if1 .left))'},
+        'move': 'nest-goes (@args .op) (@args .brace) (@args .cx) (@ne .ensures) (@if5 .left) (@loop .inv .next) (sym (@is-tighter .ensures) ∙ @if4 .taken)',
         'use': [LAWS, LOOKED, OPS],
     },
 }

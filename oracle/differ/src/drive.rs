@@ -77,8 +77,8 @@ impl<W: Fn(u64, &mut Pair, &mut Tally) + Sync> Batches<W> {
                 Err(RecvTimeoutError::Timeout) => {}
                 Err(RecvTimeoutError::Disconnected) => return all,
             }
-            if all.differing >= ENOUGH {
-                stop.store(true, Ordering::Relaxed);
+            if all.differing >= ENOUGH && !stop.swap(true, Ordering::Relaxed) {
+                eprintln!("stopping: enough cases differ");
             }
             if shown.elapsed() >= EVERY {
                 shown = Instant::now();

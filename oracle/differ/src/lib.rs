@@ -12,6 +12,7 @@ mod lists;
 // Calls into the archive, and a look at the stack that they used.
 #[allow(unsafe_code)]
 pub mod native;
+mod nests;
 pub mod options;
 pub mod pair;
 pub mod run;

@@ -6,7 +6,7 @@ use differ::{all, bench, check, edges, run, Done, STACK};
 
 const USAGE: &str = "\
 usage: differ run --count N [--seed S] [--max-tokens M] [--threads T]
-       differ all --length L [--full 1] [--threads T]
+       differ all --length L [--full] [--threads T]
        differ edges
        differ check FILE
        differ bench [--rounds R]";

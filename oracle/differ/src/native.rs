@@ -13,7 +13,7 @@ struct Raw {
     rows: u32,
 }
 
-/// Each lent list is passed as a pointer and then a length.
+// Each lent list is passed as a pointer and then a length.
 extern "C" {
     fn krosstavel_root(
         kinds: *const u8,

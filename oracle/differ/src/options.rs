@@ -12,9 +12,14 @@ impl<'a> Options<'a> {
             if !known.contains(&name) {
                 return Err(format!("no option {name}; there are: {}", known.join(" ")));
             }
-            let value = pair.get(1).ok_or_else(|| format!("{name} lacks a number"))?;
+            let value = pair
+                .get(1)
+                .ok_or_else(|| format!("{name} lacks a number"))?;
             let number = value.parse::<u64>();
-            found.push((name, number.map_err(|why| format!("{name} {value}: {why}"))?));
+            found.push((
+                name,
+                number.map_err(|why| format!("{name} {value}: {why}"))?,
+            ));
         }
         Ok(Options(found))
     }

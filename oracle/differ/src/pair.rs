@@ -3,7 +3,7 @@
 use std::fmt::Write as _;
 
 use oracle::case::Case;
-use oracle::{tree, Answer, ROW};
+use oracle::{tree, Answer, Entry, ROW};
 
 use crate::native;
 
@@ -19,6 +19,15 @@ fn noise(at: usize) -> u32 {
 /// which both sides leave alone differs too.
 fn other_noise(at: usize) -> u32 {
     !noise(at)
+}
+
+/// Either side's parse.
+pub type Side = fn(Entry, &[u8], &[u32], &mut [u32], u32, u32) -> Answer;
+
+/// Puts a case to one side.
+pub fn ask(side: Side, case: &Case, table: &mut [u32]) -> Answer {
+    let Case { kinds, lens, .. } = case;
+    side(case.entry, kinds, lens, table, case.separator, case.limit)
 }
 
 /// A case for which the two sides do not agree.
@@ -57,14 +66,7 @@ impl Pair {
     fn ask_oracle(&mut self, case: &Case) -> Answer {
         self.oracle.clear();
         self.oracle.extend((0..case.elements).map(other_noise));
-        oracle::parse(
-            case.entry,
-            &case.kinds,
-            &case.lens,
-            &mut self.oracle,
-            case.separator,
-            case.limit,
-        )
+        ask(oracle::parse, case, &mut self.oracle)
     }
 
     fn ask_native(&mut self, case: &Case) -> Answer {
@@ -72,14 +74,7 @@ impl Pair {
         self.native
             .extend((0..case.elements + 2 * GUARD).map(noise));
         let end = self.native.len() - GUARD;
-        native::parse(
-            case.entry,
-            &case.kinds,
-            &case.lens,
-            &mut self.native[GUARD..end],
-            case.separator,
-            case.limit,
-        )
+        ask(native::parse, case, &mut self.native[GUARD..end])
     }
 
     fn native_table(&self) -> &[u32] {

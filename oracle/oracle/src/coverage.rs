@@ -9,10 +9,13 @@ thread_local! {
     static COUNTS: [Cell<u64>; RULES.len()] = const { [const { Cell::new(0) }; RULES.len()] };
 }
 
+/// Whether entries are counted at all; where speed is measured they aren't.
+pub const COUNTED: bool = cfg!(feature = "coverage");
+
 /// Counts one entry of a rule.
 #[inline(always)]
 pub(crate) fn count(rule: usize) {
-    if cfg!(feature = "coverage") {
+    if COUNTED {
         COUNTS.with(|counts| counts[rule].set(counts[rule].get() + 1));
     }
 }

@@ -1,0 +1,85 @@
+-- How an entry begins: at row 0, and with its separator as it is treated.
+-- Assumes nothing.
+use Prim.Native.Nat.{ℕ, _+_, _≤_, _<_}
+use mathlib.Core.Path.{_≡_, refl, subst, sym, _∙_}
+use mathlib.Core.Bool.{Bool, true, false, cond, not, _&&_}
+use mathlib.Core.List.{List}
+use native.Mathlib.Omega.{arith}
+use lib.ListN.{length, drop}
+use lib.Dec.{leb}
+use borrow.Author.Tests.{leb-true}
+use Rattle.definition.specs.Kinds.{K-yield, K-Other}
+use Rattle.definition.specs.Classes.{treated, isToken, isTrivia}
+use Rattle.definition.specs.Tape.{State, Out, ok, refused, guard, startOf, leavesLen}
+use Rattle.definition.specs.Prog.{Prog}
+use Rattle.definition.specs.Parse.{start, admitted, root, exprs, format, isLimit, isEntry}
+use Rattle.laws.specs.Sizes.{Based}
+use Rattle.tape.specs.View.{stateOf, Marked, Step}
+use Rattle.tape.specs.declared.Tape.{Tape}
+use Rattle.entry.specs.Round.{Checked, Starts}
+use Rattle.entry.specs.declared.Answer.{Answer}
+
+pub record Treated (separator k : ℕ) : Type 0 where
+  pub is : k ≡ treated separator
+  pub some : 0 < k
+
+-- row 0 is a mark
+pub marked-start : {limit : ℕ} {t : Tape} {ks ls : List ℕ} (tab : List ℕ) → Starts limit t ks ls → Marked 0 t tab
+unfolding start startOf leavesLen
+marked-start tab s =
+    let b : Based 0 start = record { low = omega arith; sum = refl } in
+    record { based = subst (λ (x : State). Based 0 x) (sym (s .state tab)) b }
+
+-- a step of the same program under another name
+pub same-step : {A : Type 0} {m : ℕ} {p q : Prog A} {a : A} {t r : Tape} {ks ls tab tab′ : List ℕ} → p ≡ q → Step m p a t r ks ls tab tab′ → Step m q a t r ks ls tab tab′
+same-step {m = m} {a = a} {t = t} {r = r} {ks = ks} {ls = ls} {tab = tab} {tab′ = tab′} e w = subst (λ (x : Prog _). Step m x a t r ks ls tab tab′) e w
+
+-- ## What the code found of limit and entry
+
+with-true : (b : Bool) → b ≡ (b && true)
+with-true true = refl
+with-true false = refl
+
+pub valid-root : {b : Bool} (limit : ℕ) → b ≡ isLimit limit → b ≡ (isLimit limit && isEntry root)
+unfolding isEntry
+valid-root limit e = e ∙ with-true (isLimit limit)
+
+pub valid-format : {b : Bool} (limit : ℕ) → b ≡ isLimit limit → b ≡ (isLimit limit && isEntry format)
+unfolding isEntry
+valid-format limit e = e ∙ with-true (isLimit limit)
+
+-- an input that passes the five tests has a valid limit and entry
+pub checked-valid : {valid : Bool} {ks ls : List ℕ} {a : Answer} → Checked valid ks ls a → a .number ≡ 0 → valid ≡ true
+unfolding admitted guard
+checked-valid {valid = valid} {ks = ks} {ls = ls} c z = go valid (c .passes z (λ u. ok tt start))
+  where
+    go : (b : Bool) → admitted b ks ls (λ u. ok (tt {0}) start) ≡ ok tt start → b ≡ true
+    go true e = refl
+    go false e = absurd (let x : _≡_ {A = ℕ} 0 1 = cc in omega arith)
+
+and-first : (a b : Bool) → (a && b) ≡ true → a ≡ true
+and-first true b h = refl
+and-first false b h = h
+
+and-second : (a b : Bool) → (a && b) ≡ true → b ≡ true
+and-second true b h = h
+and-second false true h = refl
+and-second false false h = h
+
+pub record Fine (separator : ℕ) : Type 0 where
+  pub some : 1 ≤ separator
+  pub small : separator ≤ 127
+
+pub fine : (b : Bool) (separator : ℕ) → (b && isEntry (exprs separator)) ≡ true → Fine separator
+unfolding isEntry isToken
+fine b separator h =
+    let e : (leb 1 separator && leb separator 127) ≡ true = and-first (leb 1 separator && leb separator 127) (not (isTrivia separator)) (and-second b (isEntry (exprs separator)) h) in
+    record { some = leb-true 1 separator (and-first (leb 1 separator) (leb separator 127) e); small = leb-true separator 127 (and-second (leb 1 separator) (leb separator 127) e) }
+
+pub treated-is : {separator k : ℕ} → Fine separator → k ≡ treated separator → Treated separator k
+unfolding treated
+treated-is {separator} f e = record { is = e; some = rw e (go (leb separator K-yield)) }
+  where
+    go : (b : Bool) → 0 < cond b separator K-Other
+    go true = omega (arith, f .some)
+    go false = omega arith

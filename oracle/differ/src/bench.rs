@@ -1,0 +1,115 @@
+//! `differ bench`: both sides' time on the same lists, in the same run. It
+//! measures; it does not judge.
+
+use std::time::{Duration, Instant};
+
+use oracle::case::Case;
+use oracle::{coverage, Entry, MOST_TOKENS};
+
+use crate::lists::LISTS;
+use crate::native;
+use crate::options::Options;
+use crate::pair::{ask, Pair, Side};
+use crate::Done;
+
+/// Rounds of which the best counts.
+const ROUNDS: u64 = 25;
+
+pub fn command(args: &[&str]) -> Done {
+    if coverage::COUNTED {
+        return Err(
+            "the oracle counts its rules here: build with `cargo build --release -p differ`".into(),
+        );
+    }
+    let options = Options::read(args, &["--rounds"])?;
+    let rounds = options.get("--rounds").unwrap_or(ROUNDS).max(1);
+
+    println!("{MOST_TOKENS} tokens, tables cleared beforehand, best of {rounds}, in milliseconds; growth: from half as many tokens");
+    println!(
+        "{:26}{:>9}{:>9}{:>11}{:>8}{:>10}{:>11}",
+        "list", "rows", "oracle", "krosstavel", "ratio", "growth", "of oracle"
+    );
+    let mut worst: f64 = 0.0;
+    for list in &LISTS {
+        let measured = Measured::of(&list.case(MOST_TOKENS), rounds)?;
+        let half = Measured::of(&list.case(MOST_TOKENS / 2), rounds)?;
+        print_line(list.name, &measured, &half);
+        worst = worst.max(measured.ratio());
+    }
+    let (full, half) = (cleared(MOST_TOKENS), cleared(MOST_TOKENS / 2));
+    let measured = Measured::of(&full, rounds)?;
+    print_line(
+        "refused: clearing alone",
+        &measured,
+        &Measured::of(&half, rounds)?,
+    );
+    println!("the largest ratio is {:.2}", worst.max(measured.ratio()));
+    Ok(())
+}
+
+/// Refused at once, so that only the clearing of a roomy table is left.
+fn cleared(tokens: usize) -> Case {
+    let mut case = Case::roomy(Entry::Root, vec![1; tokens], vec![1; tokens]);
+    case.limit = 0;
+    case
+}
+
+/// The best times of both sides on one list.
+struct Measured {
+    rows: u32,
+    oracle: Duration,
+    native: Duration,
+}
+
+impl Measured {
+    fn of(case: &Case, rounds: u64) -> Result<Measured, String> {
+        let (answer, difference) = Pair::default().compare(case);
+        if let Some(difference) = difference {
+            return Err(format!("the two sides differ:\n{}", difference.what));
+        }
+        let mut table = vec![0; case.elements];
+        let mut best = [Duration::MAX; 2];
+        // The sides take turns, so that whatever slows the machine hits both.
+        for _ in 0..rounds {
+            for (side, best) in [oracle::parse as Side, native::parse].iter().zip(&mut best) {
+                *best = timed(*side, case, &mut table).min(*best);
+            }
+        }
+        let [oracle, native] = best;
+        Ok(Measured {
+            rows: answer.rows,
+            oracle,
+            native,
+        })
+    }
+
+    fn ratio(&self) -> f64 {
+        quotient(self.native, self.oracle)
+    }
+}
+
+/// One parse into a cleared table; the clearing is not timed.
+fn timed(side: Side, case: &Case, table: &mut [u32]) -> Duration {
+    table.fill(0);
+    let from = Instant::now();
+    let answer = ask(side, case, table);
+    let took = from.elapsed();
+    std::hint::black_box(answer);
+    took
+}
+
+fn quotient(a: Duration, b: Duration) -> f64 {
+    a.as_secs_f64() / b.as_secs_f64().max(1e-9)
+}
+
+fn print_line(name: &str, full: &Measured, half: &Measured) {
+    println!(
+        "{name:26}{:9}{:9.3}{:11.3}{:8.2}{:10.2}{:11.2}",
+        full.rows,
+        full.oracle.as_secs_f64() * 1e3,
+        full.native.as_secs_f64() * 1e3,
+        full.ratio(),
+        quotient(full.native, half.native),
+        quotient(full.oracle, half.oracle)
+    );
+}
