@@ -34,8 +34,8 @@ FURTHER_SAW = {'path': 'isPathComponent', 'generic-path': 'isPathComponent'}
 FURTHER_GLUED = {'pat': 'isPat', 'pat-item': 'isPatOrRest', 'pat-or-rest': 'isPatOrRest', 'match-case': 'isPat', 'select-case': 'isSelectArm'}
 # a kind of a class is no Eof
 SOME = {'is-path-component': 'path-component-some _', 'is-use-path': 'use-path-some _', 'is-object-key': 'object-key-some _',
-        'glues': 'glues-some _ _ _ _ refl', 'is-use-part': 'not-eof isUsePart (at-eof true true 0 .use-part)',
-        'is-stmt-recovering': 'recovering-some _ _'}
+        'glues': 'glues-some _ _ _ _ refl', 'is-use-part': 'none-eof isUsePart (at-eof true true 0 .use-part)',
+        'is-stmt-recovering': 'recovering-some _ _', 'is-some': 'some-is-some _'}
 
 
 # ## The code's contracts
@@ -172,6 +172,7 @@ class Walk:
                 e = self.element(f, f'{at} .{f}', p)
                 if e:
                     out.append(e)
+        self.start = out[:1]
         return out
 
     def element(self, field, term, place):
@@ -254,7 +255,9 @@ class Walk:
         return term
 
     def step_of(self, e):
-        return f'{e.term} .ensures' if self.known[e.name].mark else f'{e.term} .ensures .under _'
+        term = f'{e.term} .ensures' if self.known[e.name].mark else f'{e.term} .ensures .under _'
+        wrap = self.words.get('wrap', {}).get(e.name)
+        return self.expand(wrap, self.start).replace('{}', term) if wrap else term
 
     def lengths(self, els):
         xs = []
@@ -538,7 +541,7 @@ class Walk:
                 if e.name == m.group(1):
                     return e.term
             raise Stuck(f'no {m.group(1)} on the way')
-        return re.sub(r'@([a-z][a-z0-9-]*)', one, text.replace('@ready', self.ready(els[:self.last_loop(els) + 1])))
+        return re.sub(r'@([a-z][a-z0-9-]*)', one, text)
 
     def unfolds(self):
         if 'unfold' in self.words:
@@ -707,7 +710,7 @@ HEAD = '''-- Written by tools/walk.py from the code and its program; docs/CONTRI
 
 def uses(walks):
     """The names that any walk may cite."""
-    gram = sorted(set(n for w in walks for n in w.unfolds()))
+    gram = sorted(set(n for w in walks for n in w.unfolds() + w.words.get('names', []) + list(w.words.get('wrap', {}))))
     more = sorted(set(l for w in walks for l in w.words.get('use', [])))
     heads = sorted(set(w.known[e].head + '-further' for w in walks for e in w.callees()))
     return HEAD + f'''use Prim.Native.Nat.{{zero, suc, _+_, _-_, _*_, _≤_, _<_}}
@@ -721,7 +724,7 @@ use Rattle.definition.specs.Classes.{{isPathComponent, isPat, isPatOrRest, isUs
 use Rattle.definition.specs.Prog.{{repeat}}
 use Rattle.definition.specs.Grammar.{{{', '.join(gram)}}}
 use Rattle.laws.specs.Progress.{{{', '.join(heads + ['path-component-some', 'use-path-some', 'object-key-some', 'glues-some', 'recovering-some'])}}}
-use Rattle.kinds.specs.Laws.{{not-eof, at-eof}}
+use Rattle.kinds.specs.Laws.{{not-eof as none-eof, at-eof}}
 use Rattle.tape.specs.View.{{Step, Ran, said}}
 use Rattle.tape.specs.Steps.{{Loop, Onward, fuel, burns, here-few, marked-now, step-marked, both, cut, refusal, ends, if-yes, if-no, look, touch, spot, ask, ask-glued, ask-second, ask-second-as, scoped, unscoped, nothing, answered, answered-as, refuses, refused-tape, inv-start, inv-again, inv-end, last, last-cut}}
 use Rattle.tape.specs.Counted.{{deep, entered, entered-bool, barred, goes-on, goes-some, goes-saw, goes-glued, and-on}}
@@ -784,7 +787,7 @@ def head(path, text):
 def main():
     crate, only = sys.argv[1], sys.argv[2:]
     known = {}
-    for c in ('kinds', 'tape', 'pieces', 'grammar'):
+    for c in ('kinds', 'tape', 'pieces', 'grammar', 'krosstavel'):
         if os.path.isdir(f'crates/{c}/src'):
             known.update(contracts(c))
     defs = programs.read(GRAMMAR)
