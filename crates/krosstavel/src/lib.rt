@@ -76,7 +76,12 @@ fn format(tape: Tape, kinds: &[u8], lens: &[u32], table: &mut [u32]) -> Tape
 
 // Statements.
 #[no_mangle]
-pub extern "C" fn krosstavel_root(kinds: &[u8], lens: &[u32], table: &mut [u32], limit: u32) -> Answer
+pub extern "C" fn krosstavel_root(
+    kinds: &[u8],
+    lens: &[u32],
+    table: &mut [u32],
+    limit: u32,
+) -> Answer
     ensures { λ r. ⌜ Answers (parse rootEntry (now (kinds .entry)) (now (lens .entry)) (length (now (table .entry))) limit) (length (now (table .entry))) (r .number) (r .place) (r .rows) (now (table .exit)) ⌝ }
 {
     let a = entry::check(entry::is_limit(limit), kinds, lens);
@@ -91,10 +96,20 @@ pub extern "C" fn krosstavel_root(kinds: &[u8], lens: &[u32], table: &mut [u32],
 
 // Expressions with a separator.
 #[no_mangle]
-pub extern "C" fn krosstavel_exprs(kinds: &[u8], lens: &[u32], table: &mut [u32], separator: u32, limit: u32) -> Answer
+pub extern "C" fn krosstavel_exprs(
+    kinds: &[u8],
+    lens: &[u32],
+    table: &mut [u32],
+    separator: u32,
+    limit: u32,
+) -> Answer
     ensures { λ r. ⌜ Answers (parse (exprsEntry separator) (now (kinds .entry)) (now (lens .entry)) (length (now (table .entry))) limit) (length (now (table .entry))) (r .number) (r .place) (r .rows) (now (table .exit)) ⌝ }
 {
-    let a = entry::check(entry::is_limit(limit) & entry::is_separator(separator), kinds, lens);
+    let a = entry::check(
+        entry::is_limit(limit) & entry::is_separator(separator),
+        kinds,
+        lens,
+    );
     if a.number != 0 {
         entry::clear(table);
         return a;
@@ -107,7 +122,12 @@ pub extern "C" fn krosstavel_exprs(kinds: &[u8], lens: &[u32], table: &mut [u32]
 
 // One expression, and then every other token.
 #[no_mangle]
-pub extern "C" fn krosstavel_format(kinds: &[u8], lens: &[u32], table: &mut [u32], limit: u32) -> Answer
+pub extern "C" fn krosstavel_format(
+    kinds: &[u8],
+    lens: &[u32],
+    table: &mut [u32],
+    limit: u32,
+) -> Answer
     ensures { λ r. ⌜ Answers (parse formatEntry (now (kinds .entry)) (now (lens .entry)) (length (now (table .entry))) limit) (length (now (table .entry))) (r .number) (r .place) (r .rows) (now (table .exit)) ⌝ }
 {
     let a = entry::check(entry::is_limit(limit), kinds, lens);
