@@ -5,9 +5,10 @@ use std::sync::mpsc::{self, RecvTimeoutError, Sender};
 use std::thread;
 use std::time::{Duration, Instant};
 
+use oracle::deep::STACK;
+
 use crate::pair::Pair;
 use crate::tally::Tally;
-use crate::STACK;
 
 /// Enough differences to stop at: the shortest of them are worth reading.
 const ENOUGH: u64 = 100;

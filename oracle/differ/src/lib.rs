@@ -20,7 +20,3 @@ mod tally;
 
 /// What a command comes to: its failure is a message.
 pub type Done = Result<(), String>;
-
-/// The deepest lists need more stack than a thread has by itself; both sides
-/// get the same.
-pub const STACK: usize = 64 << 20;

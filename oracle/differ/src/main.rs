@@ -2,7 +2,8 @@
 
 use std::process::ExitCode;
 
-use differ::{all, bench, check, edges, run, Done, STACK};
+use differ::{all, bench, check, edges, run, Done};
+use oracle::deep;
 
 const USAGE: &str = "\
 usage: differ run --count N [--seed S] [--max-tokens M] [--threads T]
@@ -12,15 +13,7 @@ usage: differ run --count N [--seed S] [--max-tokens M] [--threads T]
        differ bench [--rounds R]";
 
 fn main() -> ExitCode {
-    let thread = std::thread::Builder::new().stack_size(STACK).spawn(command);
-    match thread.map(|running| running.join()) {
-        Ok(Ok(Ok(()))) => ExitCode::SUCCESS,
-        Ok(Ok(Err(why))) => {
-            eprintln!("{why}");
-            ExitCode::FAILURE
-        }
-        _ => ExitCode::FAILURE,
-    }
+    deep::exit_code(command)
 }
 
 fn command() -> Done {

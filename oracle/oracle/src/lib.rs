@@ -8,6 +8,7 @@ mod ast;
 pub mod case;
 mod compile;
 pub mod coverage;
+pub mod deep;
 pub mod generate;
 mod grammar;
 pub mod known;

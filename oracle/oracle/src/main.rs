@@ -4,7 +4,7 @@ mod commands;
 
 use std::process::ExitCode;
 
-use oracle::vectors;
+use oracle::{deep, vectors};
 
 const USAGE: &str = "\
 usage: oracle kinds
@@ -13,19 +13,8 @@ usage: oracle kinds
        oracle check FILE
        oracle vectors [--coverage | --count]";
 
-/// Deep inputs need more stack than a thread has by itself in debug builds.
-const STACK: usize = 64 << 20;
-
 fn main() -> ExitCode {
-    let thread = std::thread::Builder::new().stack_size(STACK).spawn(run);
-    match thread.map(|running| running.join()) {
-        Ok(Ok(Ok(()))) => ExitCode::SUCCESS,
-        Ok(Ok(Err(why))) => {
-            eprintln!("{why}");
-            ExitCode::FAILURE
-        }
-        _ => ExitCode::FAILURE,
-    }
+    deep::exit_code(run)
 }
 
 fn run() -> Result<(), String> {

@@ -35,7 +35,7 @@ pub fn outcome(case: &Case) -> (u32, u32) {
 /// Runs with a stack that the deepest input fits in, in any build.
 pub fn deep(test: impl FnOnce() + Send) {
     std::thread::scope(|scope| {
-        let thread = std::thread::Builder::new().stack_size(64 << 20);
+        let thread = std::thread::Builder::new().stack_size(oracle::deep::STACK);
         let running = thread.spawn_scoped(scope, test).expect("a thread");
         if let Err(why) = running.join() {
             std::panic::resume_unwind(why);
