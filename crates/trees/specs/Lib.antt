@@ -1,1 +1,3 @@
 pub mod Forest
+pub mod Planted
+pub mod Nested
