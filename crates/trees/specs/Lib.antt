@@ -1,3 +1,5 @@
 pub mod Forest
 pub mod Planted
 pub mod Nested
+pub mod Sound
+pub mod Rules
