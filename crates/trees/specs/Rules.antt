@@ -1,20 +1,25 @@
 -- Every rule of the grammar is sound: `search` walks its program, and each loop cites why its turns come further.
 -- Assumes nothing.
-use Prim.Native.Nat.{ℕ}
-use mathlib.Core.Path.{_≡_, refl, sym, _∙_}
+use Prim.Native.Nat.{ℕ, _+_}
+use mathlib.Core.Path.{_≡_, refl, subst, sym, _∙_}
 use mathlib.Core.Bool.{Bool, true, false, true≢false, false≢true, _||_}
 use mathlib.Core.Logic.{_⊎_, inl, inr}
+use mathlib.Core.List.{List}
+use native.Mathlib.Omega.{arith}
 use lib.Dec.{eqb}
 use borrow.Author.Tests.{eqb-false}
 use Rattle.definition.specs.Kinds
 use Rattle.definition.specs.Classes
 use Rattle.definition.specs.Tape.{In, State, Out, ok, refused, andThen, nthAt, gluedAt}
-use Rattle.definition.specs.Prog.{Prog, seq, ret, _>>=_, eval}
+use Rattle.definition.specs.Operators.{Op, isNone, isBelow, isTighter, clashes}
+use Rattle.definition.specs.Prog.{Prog, seq, close, binary-rule, ret, _>>=_, _>>_, loop, if_then_else_, eval, call}
 use Rattle.definition.specs.Grammar as g
 use Rattle.definition.specs.Parse.{run}
 use Rattle.laws.specs.Kept.{After}
+use Rattle.laws.specs.Unroll.{then-assoc}
 use Rattle.laws.specs.Progress as far
-use Rattle.trees.specs.Sound.{Sound, Safe, Moved, moves-choose, moves-further, free, s-done, s-scope, s-stop, s-test, s-seq, s-nth, s-glued, s-here, s-flush, s-bump, s-close, s-enter, s-loop, s-while}
+use Rattle.trees.specs.Forest.{Tok, inOf}
+use Rattle.trees.specs.Sound.{Named, Fine, Any, Asks, Entries, Sound, Safe, Turned, fine-then, fine-choose, fine-stay, fine-inside, fine-and, fine-loop, Moved, moves-choose, moves-further, free, s-done, s-scope, s-stop, s-test, s-seq, s-nth, s-glued, s-here, s-flush, s-bump, s-close, s-enter, s-loop, s-while}
 
 ruleset steps = (s-done, s-scope, s-stop, s-test, s-seq, s-nth, s-glued, s-here, s-flush, s-bump, s-close, s-enter)
 
@@ -282,12 +287,14 @@ select-list-safe : Safe g.select-list
 unfolding g.select-list g.select-arm g.select-case g.select-pat
 select-list-safe = while-glued Classes.isSelectArm g.select-arm (λ K h. search (exprs, expr-after-safe) depth 30) far.select-arm-further
 
+expr-moves : {A B : Type 0} (i : In) (d m : ℕ) (rest : Unit {0} → Prog (A ⊎ B)) (s : State) → Moved s (run i d m (seq g.expr rest) s)
+expr-moves i d m rest s = moves-further s (run i d m (seq g.expr rest) s) (far.first-further i d m g.expr rest s (far.expr-further i d m s))
+
 tuple-moves : (i : In) (d m : ℕ) (b : Bool) (s : State) → Moved s (run i d m (g.tuple-turn b) s)
 unfolding g.tuple-turn run eval andThen
 tuple-moves i d m b s =
-    let rest : Unit {0} → Prog (Bool ⊎ Bool) = λ u. g.bump-while Kinds.K-comma >>= λ c. ret (inl (b || c)) in
     moves-choose s (Classes.isExprWith true true (nthAt i 0 s) (gluedAt i s)) _ _
-    (λ z. moves-further s (run i d m (seq g.expr rest) s) (far.first-further i d m g.expr rest s (far.expr-further i d m s))) (λ z. tt)
+    (λ z. expr-moves i d m (λ u. g.bump-while Kinds.K-comma >>= λ c. ret (inl (b || c))) s) (λ z. tt)
 
 tuple-items-safe : Safe g.tuple-items
 unfolding g.tuple-items g.tuple-turn
@@ -326,3 +333,161 @@ primary-group-safe brace range cx k j K h = search (groups, primary-word-safe) d
 expr-primary-safe : (brace range cx : Bool) → Safe (g.expr-primary brace range cx)
 unfolding g.expr-primary g.primary-kind g.primary-path g.macro-call g.expr-object g.expr-tuple-or-group g.empty-group
 expr-primary-safe brace range cx K h = search (groups, primary-group-safe) depth 40
+
+-- ## Chains, ranges, operators
+
+no-kind : eqb 0 0 ≡ false → Named 0
+no-kind e = absurd (true≢false e)
+
+chain-step-safe : (kind : ℕ) → Safe (g.chain-step kind)
+unfolding g.chain-step g.chain-link g.field-link
+chain-step-safe kind K h = search (exprs, no-kind) depth 40
+
+chain-moves : (i : In) (d m : ℕ) (c : ℕ × Bool) (s : State) → Moved s (run i d m (g.chain-turn c) s)
+unfolding g.chain-turn run eval andThen far.Further
+chain-moves i d m c s = go (run i d m (g.chain-step (c .0)) s) refl
+  where
+    go : (o : Out ℕ) → run i d m (g.chain-step (c .0)) s ≡ o → Moved {A = ℕ × Bool} {B = ℕ × Bool} s (andThen o (λ k t. run i d m (if eqb k 0 then ret (inr c) else ret (inl (k, true))) t))
+    go (ok k t) e = moves-choose s (eqb k 0) _ _ (λ z. tt) (far.chain-step-further i d m (c .0) s t k e)
+    go (refused n pl) e = tt
+
+expr-chain-safe : (kind : ℕ) → Safe (g.expr-chain kind)
+unfolding g.expr-chain g.chain-turn
+expr-chain-safe kind K h = s-seq (s-loop (λ c. search (steps, chain-step-safe) depth 20) chain-moves)
+
+expr-range-safe : (kind : ℕ) (brace : Bool) → Safe (g.expr-range kind brace)
+unfolding g.expr-range g.range-rest
+expr-range-safe kind brace K h = search exprs depth 20
+
+operator-safe : (op : Op) → Safe (g.operator op)
+unfolding g.operator g.advance
+operator-safe op K h = search steps depth 20
+
+-- what follows a lookahead that goes round a loop
+abbrev At : In → Op → State → Type 0
+At i op s = op ≡ far.operator-at i s
+
+close-if-safe : (k : ℕ) → Named k → (b : Bool) → Safe (g.when b (close k))
+close-if-safe k c b K h = search steps depth 12
+
+module _ (l : List Tok) (n d : ℕ) (E : Entries l n d) (m : ℕ) where
+  abbrev i : In
+  i = inOf l n
+
+  binary-fine : (op : Op) (least : ℕ) (brace cx : Bool) (s : State) → At i op s → Fine l m s Any (run i d m (g.expr-binary op least brace cx) s)
+  unfolding g.expr-binary run eval Entries Asks
+  binary-fine op least brace cx s e =
+      fine-then l n m s Any Any (call g.grammar i d (binary-rule op least brace cx) s) _
+      (fine-inside l n m s Any (call g.grammar i d (binary-rule op least brace cx) s) (E (binary-rule op least brace cx) s e)) (λ k t z. fine-stay l n m t Any (eqb k 1) tt)
+
+  nest-fine : (op next : Op) (brace cx : Bool) (s : State) → At i next s → Fine l m s Any (run i d m (g.nest op next brace cx) s)
+  unfolding g.nest run eval
+  nest-fine op next brace cx s e =
+      fine-then l n m s Any Any (run i d m (g.expr-binary next (op .binding + 1) brace cx) s) _ (binary-fine next (op .binding + 1) brace cx s e)
+      (λ any t z. close-if-safe Kinds.ExprBinary refl any _ (λ u. tt) .fine l n d E m t)
+
+  -- a turn that comes further and then looks for the next operator
+  round-fine : {A B : Type 0} (I : A → State → Type 0) (K : B → State → Type 0) (w : Op → A) → ((t : State) → I (w (far.operator-at i t)) t) →
+      (p : Prog (Unit {0})) (s : State) → Fine l m s Any (run i d m p s) → After far.Further s (run i d m p s) →
+      Fine l m s (Turned s I K) (run i d m (p >> g.lookahead >>= λ o. ret (inl (w o))) s)
+  unfolding run eval andThen far.Further
+  round-fine I K w k p s f h =
+      fine-then l n m s (λ u t. Any u t × far.Further s t) (Turned s I K) (run i d m p s) _ (fine-and l m s Any far.Further (run i d m p s) f h)
+      (λ u t z. fine-stay l n m t (Turned s I K) (inl (w (far.operator-at i t))) (z .1, k t))
+
+  -- tighter operators
+  tighter-fine : (op : Op) (brace cx : Bool) (place : ℕ) (K : Unit {0} → State → Type 0) → ((t : State) → K tt t) → (next : Op) (s : State) → At i next s →
+      Fine l m s (Turned s (At i) K) (run i d m (g.tighter-turn op brace cx place next) s)
+  unfolding g.tighter-turn run eval
+  tighter-fine op brace cx place K k next s e =
+      fine-choose l n m s (Turned s (At i) K) (isNone next) _ _ (λ z. fine-stay l n m s (Turned s (At i) K) (inr tt) (k s)) (λ z.
+      fine-choose l n m s (Turned s (At i) K) (isTighter op next) _ _
+      (λ y.
+      round-fine (At i) K (λ o. o) (λ t. refl) (g.nest op next brace cx) s (nest-fine op next brace cx s e) (far.nest-further i d m s op brace cx next e y))
+      (λ y.
+      fine-choose l n m s (Turned s (At i) K) (clashes op next) _ _ (λ x q. omega arith) (λ x. fine-stay l n m s (Turned s (At i) K) (inr tt) (k s))))
+
+tighter-sound : (op : Op) (brace cx : Bool) (place : ℕ) (K : Unit {0} → Type 0) → K tt → Sound (g.lookahead >>= λ next. loop (g.tighter-turn op brace cx place) next) K
+unfolding run eval andThen
+tighter-sound op brace cx place K k =
+    record {
+      fine = λ l n d E m s.
+          fine-loop l n d m (g.tighter-turn op brace cx place) (At (inOf l n)) (λ u t. K u) (tighter-fine l n d E m op brace cx place (λ u t. K u) (λ t. k))
+          (far.operator-at (inOf l n) s) s refl;
+    }
+
+operand-safe : (op : Op) (brace cx : Bool) → Safe (g.operand op brace cx)
+unfolding g.operand
+operand-safe op brace cx K h = s-scope (s-seq (s-here (λ place. s-seq (outer-safe brace false false cx _ (λ k. tighter-sound op brace cx place K (h tt))))))
+
+-- the operator goes round
+abbrev AtFirst : In → Op × Bool → State → Type 0
+AtFirst i b s = At i (b .0) s
+
+binary-operand : (op : Op) (brace cx : Bool) → Sound (g.operator op >> g.operand op brace cx) (λ u. Unit {0})
+binary-operand op brace cx = s-seq (operator-safe op _ (λ u. operand-safe op brace cx _ (λ v. tt)))
+
+module _ (l : List Tok) (n d : ℕ) (E : Entries l n d) (m least : ℕ) (brace cx : Bool) where
+  binary-on-fine : (op : Op) (s : State) → At (inOf l n) op s → isBelow least op ≡ false →
+      Fine {A = (Op × Bool) ⊎ Bool} l m s (Turned s (AtFirst (inOf l n)) Any)
+      (run (inOf l n) d m (g.operator op >> g.operand op brace cx >> g.lookahead >>= λ next. ret (inl (next, true))) s)
+  unfolding run eval
+  binary-on-fine op s e z =
+      let i = inOf l n in
+      subst (λ (o : Out ((Op × Bool) ⊎ Bool)). Fine l m s (Turned s (AtFirst i) Any) o) (then-assoc (run i d m (g.operator op) s) (λ u t. run i d m (g.operand op brace cx) t) _)
+      (round-fine l n d E m (AtFirst i) Any (λ o. (o, true)) (λ t. refl) (g.operator op >> g.operand op brace cx) s (binary-operand op brace cx .fine l n d E m s)
+      (far.first-further i d m (g.operator op) (λ u. g.operand op brace cx) s (far.operator-further i d m s (far.operator-some i s op least e z) op)))
+
+  binary-turn-fine : (b : Op × Bool) (s : State) → AtFirst (inOf l n) b s →
+      Fine l m s (Turned s (AtFirst (inOf l n)) Any) (run (inOf l n) d m (g.binary-turn least brace cx b) s)
+  unfolding g.binary-turn run eval
+  binary-turn-fine b s e =
+      fine-choose l n m s (Turned s (AtFirst (inOf l n)) Any) (isBelow least (b .0)) _ _
+      (λ z. fine-stay l n m s (Turned s (AtFirst (inOf l n)) Any) (inr (b .1)) tt) (binary-on-fine (b .0) s e)
+
+  binary-body-fine : (op : Op) (s : State) → At (inOf l n) op s → Fine l m s Any (run (inOf l n) d m (g.binary-body op least brace cx) s)
+  unfolding g.binary-body
+  binary-body-fine op s e = fine-loop l n d m (g.binary-turn least brace cx) (AtFirst (inOf l n)) Any binary-turn-fine (op, false) s e
+
+-- ## Statements
+
+outer-binary-safe : (kind : ℕ) (brace cx : Bool) → Safe (g.outer-binary kind brace cx)
+unfolding g.outer-binary run eval andThen
+outer-binary-safe kind brace cx K h =
+    record {
+      fine = λ l n d E m s.
+          fine-then l n m s Any (λ k t. K k) (run (inOf l n) d m (g.expr-binary (far.operator-at (inOf l n) s) 0 brace cx) s) _
+          (binary-fine l n d E m (far.operator-at (inOf l n) s) 0 brace cx s refl) (λ any t z. ends any .fine l n d E m t);
+    }
+  where
+    ends : (any : Bool) → Sound (if any then g.finish Kinds.ExprBinary else ret kind) K
+    ends any = search steps depth 12
+
+outer-body-safe : (brace range binary cx : Bool) → Safe (g.outer-body brace range binary cx)
+unfolding g.outer-body g.outer-chain g.outer-assign g.outer-rest g.outer-op
+outer-body-safe brace range binary cx K h = search (exprs, expr-primary-safe, expr-chain-safe, expr-range-safe, outer-binary-safe) depth 40
+
+item-fn-safe : Safe g.item-fn
+unfolding g.item-fn g.fn-args g.fn-arg-list g.fn-body
+item-fn-safe K h = search (exprs, pat-list-safe) depth 40
+
+-- (their answers are closed)
+stmt-value-sound : (c : Bool) (k : ℕ) (K : ℕ → Type 0) → ((k : ℕ) → Named k → K k) → Sound (g.stmt-value c k) K
+unfolding g.stmt-value g.stmt-end g.stmt-expr g.item-const
+stmt-value-sound c k K h = search exprs depth 40
+
+stmt-block-sound : (c : Bool) (k : ℕ) (K : ℕ → Type 0) → ((k : ℕ) → Named k → K k) → Sound (g.stmt-block c k) K
+unfolding g.stmt-block g.stmt-mod g.stmt-end g.item-impl g.impl-path g.item-mod
+stmt-block-sound c k K h = search (exprs, item-fn-safe, stmt-value-sound) depth 40
+
+stmt-inner-sound : (K : ℕ → Type 0) → ((k : ℕ) → Named k → K k) → Sound g.stmt-inner K
+unfolding g.stmt-inner g.stmt-kind g.stmt-end g.local
+stmt-inner-sound K h = search (exprs, item-use-safe, item-struct-safe, item-enum-safe, stmt-block-sound) depth 40
+
+stmt-outer-safe : Safe g.stmt-outer
+unfolding g.stmt-outer
+stmt-outer-safe K h = search (tokens, stmt-inner-sound) depth 12
+
+stmt-body-safe : Safe g.stmt-body
+unfolding g.stmt-body
+stmt-body-safe K h = search (tokens, stmt-outer-safe) depth 30

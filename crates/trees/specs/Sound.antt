@@ -77,7 +77,7 @@ module _ (l : List Tok) (n m : ℕ) where
   fine-choose s K true f g h k = h refl
   fine-choose s K false f g h k = k refl
 
-  fine-stay : {A : Type 0} (s : State) (K : A → State → Type 0) (a : A) → K a s → Fine l m s K (ok a s)
+  pub fine-stay : {A : Type 0} (s : State) (K : A → State → Type 0) (a : A) → K a s → Fine l m s K (ok a s)
   fine-stay s K a k = (plants-same Named l n m s, k)
 
   fine-leaf : (s : State) → Fine l m s Any (leafAt (inOf l n) s)
@@ -101,7 +101,7 @@ module _ (l : List Tok) (n m : ℕ) where
   fine-close k s c = fine-guard s _ _ 11 _ _ (λ z. omega arith) (λ r. (plants-node Named l n m k s c, tt))
 
   -- what is done under a mark of its own
-  fine-inside : {A : Type 0} (s : State) (K : A → State → Type 0) (o : Out A) → Fine l (length (s .out)) s K o → Fine l m s K o
+  pub fine-inside : {A : Type 0} (s : State) (K : A → State → Type 0) (o : Out A) → Fine l (length (s .out)) s K o → Fine l m s K o
   fine-inside s K (ok a t) h = (plants-inside Named l n m s t (h .0), h .1)
   fine-inside s K (refused k pl) h = h
 
@@ -226,7 +226,7 @@ abbrev pub Turned : {A B : Type 0} → State → (A → State → Type 0) → (B
 Turned s I K (inl a) t = (s .at < t .at) × I a t
 Turned s I K (inr b) t = K b t
 
-fine-and : {A : Type 0} (l : List Tok) (m : ℕ) (s : State) (K : A → State → Type 0) (R : State → State → Type 0) (o : Out A) →
+pub fine-and : {A : Type 0} (l : List Tok) (m : ℕ) (s : State) (K : A → State → Type 0) (R : State → State → Type 0) (o : Out A) →
     Fine l m s K o → After R s o → Fine l m s (λ a t. K a t × R s t) o
 fine-and l m s K R (ok a t) h g = (h .0, (h .1, g))
 fine-and l m s K R (refused k pl) h g = h
