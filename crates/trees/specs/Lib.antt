@@ -1,5 +1,7 @@
 pub mod Forest
 pub mod Planted
-pub mod Nested
+pub mod Input
+pub mod Root
 pub mod Sound
 pub mod Rules
+pub mod Nested

@@ -1,24 +1,27 @@
 -- Every rule of the grammar is sound: `search` walks its program, and each loop cites why its turns come further.
 -- Assumes nothing.
-use Prim.Native.Nat.{ℕ, _+_}
+use Prim.Native.Nat.{ℕ, zero, suc, _+_}
 use mathlib.Core.Path.{_≡_, refl, subst, sym, _∙_}
-use mathlib.Core.Bool.{Bool, true, false, true≢false, false≢true, _||_}
+use mathlib.Core.Bool.{Bool, true, false, true≢false, false≢true, cond, _||_}
 use mathlib.Core.Logic.{_⊎_, inl, inr}
 use mathlib.Core.List.{List}
 use native.Mathlib.Omega.{arith}
+use lib.ListN.{length}
 use lib.Dec.{eqb}
-use borrow.Author.Tests.{eqb-false}
+use borrow.Author.Tests.{eqb-false, ne-eqb}
 use Rattle.definition.specs.Kinds
 use Rattle.definition.specs.Classes
 use Rattle.definition.specs.Tape.{In, State, Out, ok, refused, andThen, nthAt, gluedAt}
 use Rattle.definition.specs.Operators.{Op, isNone, isBelow, isTighter, clashes}
-use Rattle.definition.specs.Prog.{Prog, seq, close, binary-rule, ret, _>>=_, _>>_, loop, if_then_else_, eval, call}
+use Rattle.definition.specs.Prog.{Prog, Rule, stmt-rule, item-use-rule, pat-rule, path-rule, outer-rule, seq, bump, close, binary-rule, ret, _>>=_, _>>_, loop, if_then_else_, eval, call}
 use Rattle.definition.specs.Grammar as g
-use Rattle.definition.specs.Parse.{run}
+use Rattle.definition.specs.Parse.{Entry, root, exprs, format, isEntry, run}
 use Rattle.laws.specs.Kept.{After}
 use Rattle.laws.specs.Unroll.{then-assoc}
 use Rattle.laws.specs.Progress as far
 use Rattle.trees.specs.Forest.{Tok, inOf}
+use Rattle.trees.specs.Input.{and-first, treated-some}
+use Rattle.trees.specs.Root.{before}
 use Rattle.trees.specs.Sound.{Named, Fine, Any, Asks, Entries, Sound, Safe, Turned, fine-then, fine-choose, fine-stay, fine-inside, fine-and, fine-loop, Moved, moves-choose, moves-further, free, s-done, s-scope, s-stop, s-test, s-seq, s-nth, s-glued, s-here, s-flush, s-bump, s-close, s-enter, s-loop, s-while}
 
 ruleset steps = (s-done, s-scope, s-stop, s-test, s-seq, s-nth, s-glued, s-here, s-flush, s-bump, s-close, s-enter)
@@ -265,27 +268,27 @@ block-safe : Safe g.block
 unfolding g.block
 block-safe K h = search (tokens, block-with-safe) depth 20
 
-ruleset exprs = (pats, modifiers-safe, outer-safe, expr-with-safe, parenthesized-safe, block-safe, block-with-safe)
+ruleset values = (pats, modifiers-safe, outer-safe, expr-with-safe, parenthesized-safe, block-safe, block-with-safe)
 
 condition-safe : Safe g.condition
 unfolding g.condition g.condition-let g.condition-init
-condition-safe K h = search exprs depth 30
+condition-safe K h = search values depth 30
 
 else-branches-safe : Safe g.else-branches
 unfolding g.else-branches g.else-branch g.else-if
-else-branches-safe = while-token (λ j. eqb j Kinds.K-else) g.else-branch (λ K h. search (exprs, condition-safe) depth 30) refl far.else-branch-further
+else-branches-safe = while-token (λ j. eqb j Kinds.K-else) g.else-branch (λ K h. search (values, condition-safe) depth 30) refl far.else-branch-further
 
 expr-after-safe : (k : ℕ) → Safe (g.expr-after k)
 unfolding g.expr-after
-expr-after-safe k K h = search exprs depth 20
+expr-after-safe k K h = search values depth 20
 
 match-list-safe : Safe g.match-list
 unfolding g.match-list g.match-arm g.match-case
-match-list-safe = while-glued Classes.isPat g.match-arm (λ K h. search (exprs, expr-after-safe) depth 30) far.match-arm-further
+match-list-safe = while-glued Classes.isPat g.match-arm (λ K h. search (values, expr-after-safe) depth 30) far.match-arm-further
 
 select-list-safe : Safe g.select-list
 unfolding g.select-list g.select-arm g.select-case g.select-pat
-select-list-safe = while-glued Classes.isSelectArm g.select-arm (λ K h. search (exprs, expr-after-safe) depth 30) far.select-arm-further
+select-list-safe = while-glued Classes.isSelectArm g.select-arm (λ K h. search (values, expr-after-safe) depth 30) far.select-arm-further
 
 expr-moves : {A B : Type 0} (i : In) (d m : ℕ) (rest : Unit {0} → Prog (A ⊎ B)) (s : State) → Moved s (run i d m (seq g.expr rest) s)
 expr-moves i d m rest s = moves-further s (run i d m (seq g.expr rest) s) (far.first-further i d m g.expr rest s (far.expr-further i d m s))
@@ -298,12 +301,12 @@ tuple-moves i d m b s =
 
 tuple-items-safe : Safe g.tuple-items
 unfolding g.tuple-items g.tuple-turn
-tuple-items-safe K h = s-loop (λ b. search exprs depth 30) tuple-moves
+tuple-items-safe K h = s-loop (λ b. search values depth 30) tuple-moves
 
 object-fields-safe : Safe g.object-fields
 unfolding g.object-fields g.object-field
 object-fields-safe =
-    while-next Classes.isObjectKey g.object-field (λ K h. search (exprs, expr-after-safe) depth 30)
+    while-next Classes.isObjectKey g.object-field (λ K h. search (values, expr-after-safe) depth 30)
     (λ i d m s z. far.object-field-further i d m s (far.object-key-some _ z))
 
 recovery-safe : Safe g.recovery
@@ -312,7 +315,7 @@ recovery-safe K h =
     s-while g.is-stmt-recovering _ (λ i s. Classes.isStmtRecovering (nthAt i 0 s) (nthAt i 1 s)) (λ i e m s. refl) (s-bump tt)
     (λ i d m s z. far.bump-further i d m s (far.recovering-some _ _ z)) (h tt)
 
-ruleset groups = (exprs, condition-safe, else-branches-safe, match-list-safe, select-list-safe, tuple-items-safe, object-fields-safe, recovery-safe)
+ruleset groups = (values, condition-safe, else-branches-safe, match-list-safe, select-list-safe, tuple-items-safe, object-fields-safe, recovery-safe)
 
 primary-last-safe : (brace range cx : Bool) (k j : ℕ) → Safe (g.primary-last brace range cx k j)
 unfolding g.primary-last g.range-to g.range-to-inclusive g.anonymous-object g.recover g.expr-object g.push
@@ -341,7 +344,7 @@ no-kind e = absurd (true≢false e)
 
 chain-step-safe : (kind : ℕ) → Safe (g.chain-step kind)
 unfolding g.chain-step g.chain-link g.field-link
-chain-step-safe kind K h = search (exprs, no-kind) depth 40
+chain-step-safe kind K h = search (values, no-kind) depth 40
 
 chain-moves : (i : In) (d m : ℕ) (c : ℕ × Bool) (s : State) → Moved s (run i d m (g.chain-turn c) s)
 unfolding g.chain-turn run eval andThen far.Further
@@ -357,7 +360,7 @@ expr-chain-safe kind K h = s-seq (s-loop (λ c. search (steps, chain-step-safe) 
 
 expr-range-safe : (kind : ℕ) (brace : Bool) → Safe (g.expr-range kind brace)
 unfolding g.expr-range g.range-rest
-expr-range-safe kind brace K h = search exprs depth 20
+expr-range-safe kind brace K h = search values depth 20
 
 operator-safe : (op : Op) → Safe (g.operator op)
 unfolding g.operator g.advance
@@ -465,24 +468,24 @@ outer-binary-safe kind brace cx K h =
 
 outer-body-safe : (brace range binary cx : Bool) → Safe (g.outer-body brace range binary cx)
 unfolding g.outer-body g.outer-chain g.outer-assign g.outer-rest g.outer-op
-outer-body-safe brace range binary cx K h = search (exprs, expr-primary-safe, expr-chain-safe, expr-range-safe, outer-binary-safe) depth 40
+outer-body-safe brace range binary cx K h = search (values, expr-primary-safe, expr-chain-safe, expr-range-safe, outer-binary-safe) depth 40
 
 item-fn-safe : Safe g.item-fn
 unfolding g.item-fn g.fn-args g.fn-arg-list g.fn-body
-item-fn-safe K h = search (exprs, pat-list-safe) depth 40
+item-fn-safe K h = search (values, pat-list-safe) depth 40
 
 -- (their answers are closed)
 stmt-value-sound : (c : Bool) (k : ℕ) (K : ℕ → Type 0) → ((k : ℕ) → Named k → K k) → Sound (g.stmt-value c k) K
 unfolding g.stmt-value g.stmt-end g.stmt-expr g.item-const
-stmt-value-sound c k K h = search exprs depth 40
+stmt-value-sound c k K h = search values depth 40
 
 stmt-block-sound : (c : Bool) (k : ℕ) (K : ℕ → Type 0) → ((k : ℕ) → Named k → K k) → Sound (g.stmt-block c k) K
 unfolding g.stmt-block g.stmt-mod g.stmt-end g.item-impl g.impl-path g.item-mod
-stmt-block-sound c k K h = search (exprs, item-fn-safe, stmt-value-sound) depth 40
+stmt-block-sound c k K h = search (values, item-fn-safe, stmt-value-sound) depth 40
 
 stmt-inner-sound : (K : ℕ → Type 0) → ((k : ℕ) → Named k → K k) → Sound g.stmt-inner K
 unfolding g.stmt-inner g.stmt-kind g.stmt-end g.local
-stmt-inner-sound K h = search (exprs, item-use-safe, item-struct-safe, item-enum-safe, stmt-block-sound) depth 40
+stmt-inner-sound K h = search (values, item-use-safe, item-struct-safe, item-enum-safe, stmt-block-sound) depth 40
 
 stmt-outer-safe : Safe g.stmt-outer
 unfolding g.stmt-outer
@@ -491,3 +494,47 @@ stmt-outer-safe K h = search (tokens, stmt-inner-sound) depth 12
 stmt-body-safe : Safe g.stmt-body
 unfolding g.stmt-body
 stmt-body-safe K h = search (tokens, stmt-outer-safe) depth 30
+
+-- ## The grammar, and the entries
+
+rule-sound : (r : Rule) → free r ≡ true → Sound (g.grammar r) (λ k. Unit {0})
+unfolding g.grammar free
+rule-sound stmt-rule e = search (steps, stmt-body-safe)
+rule-sound item-use-rule e = search (steps, item-use-body-safe)
+rule-sound pat-rule e = search (steps, pat-body-safe)
+rule-sound path-rule e = search (steps, path-body-safe)
+rule-sound (outer-rule brace range binary cx) e = outer-body-safe brace range binary cx _ (λ k. tt)
+rule-sound (binary-rule op least brace cx) e = absurd (false≢true e)
+
+rule-fine : (l : List Tok) (n d : ℕ) → Entries l n d → (r : Rule) (s : State) → Asks (inOf l n) r s → Fine l (length (s .out)) s Any (run (inOf l n) d (length (s .out)) (g.grammar r) s)
+unfolding free Asks g.grammar run eval
+rule-fine l n d E stmt-rule s a = rule-sound stmt-rule refl .fine l n d E (length (s .out)) s
+rule-fine l n d E item-use-rule s a = rule-sound item-use-rule refl .fine l n d E (length (s .out)) s
+rule-fine l n d E pat-rule s a = rule-sound pat-rule refl .fine l n d E (length (s .out)) s
+rule-fine l n d E path-rule s a = rule-sound path-rule refl .fine l n d E (length (s .out)) s
+rule-fine l n d E (outer-rule brace range binary cx) s a = rule-sound (outer-rule brace range binary cx) refl .fine l n d E (length (s .out)) s
+rule-fine l n d E (binary-rule op least brace cx) s a =
+    fine-then l n (length (s .out)) s Any Any (run (inOf l n) d (length (s .out)) (g.binary-body op least brace cx) s) _
+    (binary-body-fine l n d E (length (s .out)) least brace cx op s a) (λ b t z. fine-stay l n (length (s .out)) t (Any {A = ℕ}) (cond b 1 0) tt)
+
+-- at any depth
+pub entries : (l : List Tok) (n d : ℕ) → Entries l n d
+unfolding Entries call run
+entries l n zero r s a = λ z. omega arith
+entries l n (suc d) r s a = rule-fine l n d (entries l n d) r s a
+
+-- the entries, with a separator that is let in
+separated-safe : (separator : ℕ) → isEntry (exprs separator) ≡ true → Safe (g.separated separator)
+unfolding isEntry g.separated
+separated-safe separator e K h =
+    let some : eqb Kinds.Eof (Classes.treated separator) ≡ false = ne-eqb _ _ (λ z. treated-some separator (and-first (Classes.isToken separator) _ e) (sym z)) in
+    s-seq (expr-with-safe true true true false _ (λ u. s-seq (bump-while-safe (Classes.treated separator) some _ (λ b. s-done (h tt)))))
+
+pub before-sound : (e : Entry) → isEntry e ≡ true → Sound (before e) (λ u. Unit {0})
+unfolding before Classes.isSome
+before-sound root e = s-seq (while-next Classes.isSome g.stmt stmt-safe (λ i d m s z. far.stmt-further i d m s) _ (λ u. s-flush tt))
+before-sound (exprs separator) e =
+    s-seq
+    (while-next Classes.isSome (g.separated separator) (separated-safe separator e) (λ i d m s z. far.separated-further i d m s separator) _ (λ u. s-flush tt))
+before-sound format e =
+    s-seq (expr-with-safe true true true false _ (λ u. s-seq (while-token Classes.isSome bump (λ K h. s-bump (h tt)) refl far.bump-further _ (λ v. s-flush tt))))
