@@ -5,3 +5,5 @@ pub mod Root
 pub mod Sound
 pub mod Rules
 pub mod Nested
+pub mod Lossless
+pub mod Ends
