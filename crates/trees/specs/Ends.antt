@@ -6,7 +6,7 @@ use mathlib.Core.List.{List}
 use Rattle.definition.specs.Tape.{State, Out, ok, refused}
 use Rattle.definition.specs.Parse.{Entry, parse, numberOf}
 use Rattle.trees.specs.Input.{tokens}
-use Rattle.trees.specs.Nested.{Tree, Whole, parse-whole}
+use Rattle.trees.specs.Nested.{Whole, parse-whole}
 
 -- **No call is refused with 0, "never ends".**
 pub never-zero : (e : Entry) (ks ls : List ℕ) (n limit place : ℕ) → parse e ks ls n limit ≡ refused 0 place → ⊥

@@ -6,12 +6,12 @@ use mathlib.Core.Bool.{Bool, true, false, false≢true, _&&_}
 use mathlib.Core.List.{List, [], _∷_}
 use native.Mathlib.Omega.{arith}
 use lib.ListN.{length, drop}
-use lib.Dec.{leb, eqb}
+use lib.Dec.{leb}
 use borrow.Author.Tests.{eqb-true, leb-true}
 use Rattle.definition.specs.Kinds.{Eof, K-yield}
 use Rattle.definition.specs.Classes.{isTrivia, isToken, treated}
-use Rattle.definition.specs.Tape.{State, Out, ok, refused, guard, triv, nthKind}
-use Rattle.definition.specs.Parse.{Entry, program, firstNot, firstOver, isLimit, isEntry, admitted, run, start, parse, numberOf}
+use Rattle.definition.specs.Tape.{Out, guard, triv, nthKind}
+use Rattle.definition.specs.Parse.{Entry, program, firstNot, isLimit, isEntry, admitted, run, start, parse, numberOf}
 use Rattle.laws.specs.Looking.{skipped}
 use Rattle.trees.specs.Forest.{Tok, kinds, lens, inOf}
 

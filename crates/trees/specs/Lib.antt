@@ -3,6 +3,8 @@ pub mod Planted
 pub mod Input
 pub mod Root
 pub mod Sound
+pub mod Pieces
+pub mod Expressions
 pub mod Rules
 pub mod Nested
 pub mod Lossless

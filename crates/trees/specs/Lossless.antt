@@ -1,11 +1,10 @@
 -- An accepted table's leaves are the input's tokens: none is lost, made up, moved or changed.
 -- Assumes nothing.
 use Prim.Native.Nat.{ℕ, _+_, _<_}
-use mathlib.Core.Path.{_≡_, refl, ap, subst, sym, _∙_}
+use mathlib.Core.Path.{_≡_, refl, ap, _∙_}
 use mathlib.Core.Bool.{Bool, true, false}
 use mathlib.Core.List.{List, [], _∷_, _++_, append-nil}
 use native.Mathlib.Omega.{arith}
-use lib.ListN.{length}
 use lib.Dec.{ltb, leb}
 use borrow.Author.Tests.{leb-true, lt-ltb, le-ltb}
 use Rattle.definition.specs.Kinds.{Root}
@@ -16,7 +15,7 @@ use Rattle.trees.specs.Forest.{Tok, Forest, none, leaf, node, _⊕_, siz
 use Rattle.trees.specs.Planted.{Nodes}
 use Rattle.trees.specs.Input.{tokens, Kinds, kinds-first, parsed, and-second}
 use Rattle.trees.specs.Sound.{Named}
-use Rattle.trees.specs.Nested.{Tree, nested}
+use Rattle.trees.specs.Nested.{nested}
 
 -- the rows that are leaves: a token's kind is below 128, a node's is not
 unfoldable pub leafRows : List Row → List Row
@@ -78,9 +77,13 @@ forest-leafRows b (node k c f) n h =
     let g = below-app (leaves c) (leaves f) h in
     let r : Row = record { kind = k; back = size c; start = b; len = bytes c } in
     rw (
-      leafs-app (leaves c) (leaves f), rows-app b (leafs (leaves c)) (leafs (leaves f)), leafs-bytes c,
-      leafRows-app (rows b c) (r ∷ rows (b + bytes c) f), forest-leafRows b c (n .1) (g .0),
-      leafRows-node r (rows (b + bytes c) f) (n .0), forest-leafRows (b + bytes c) f (n .2) (g .1)
+      leafs-app (leaves c) (leaves f),
+      rows-app b (leafs (leaves c)) (leafs (leaves f)),
+      leafs-bytes c,
+      leafRows-app (rows b c) (r ∷ rows (b + bytes c) f),
+      forest-leafRows b c (n .1) (g .0),
+      leafRows-node r (rows (b + bytes c) f) (n .0),
+      forest-leafRows (b + bytes c) f (n .2) (g .1),
     )
 
 -- **Every accepted table's leaf rows are the input's tokens in order**: kind and length as they came, each start the sum of the lengths before it.

@@ -1,22 +1,21 @@
 -- An accepted table is one tree: Root on top, every node over whole trees, and the tokens of the input, in their order, as its leaves.
 -- Assumes nothing.
 use Prim.Native.Nat.{ℕ}
-use mathlib.Core.Path.{_≡_, refl, ap, sym, subst, _∙_}
-use mathlib.Core.Bool.{Bool, true, false, _&&_}
+use mathlib.Core.Path.{_≡_, refl, ap, subst, _∙_}
+use mathlib.Core.Bool.{Bool, true, false}
 use mathlib.Core.List.{List}
 use native.Mathlib.Omega.{arith}
-use lib.ListN.{length}
 use lib.Seq.{take-all}
 use Rattle.definition.specs.Kinds.{Root}
-use Rattle.definition.specs.Tape.{In, State, Out, ok, refused, andThen, guard, wroteNode, closeAt}
-use Rattle.definition.specs.Prog.{Calls, eval, call}
+use Rattle.definition.specs.Tape.{State, Out, ok, refused, andThen, guard, wroteNode, closeAt}
+use Rattle.definition.specs.Prog.{call}
 use Rattle.definition.specs.Grammar.{grammar}
 use Rattle.definition.specs.Parse.{Entry, isLimit, isEntry, program, run, start, parse, numberOf}
 use Rattle.trees.specs.Forest.{Tok, Forest, none, node, leaves, rows, st, kinds, inOf, kinds-length}
-use Rattle.trees.specs.Planted.{Nodes, Wrote, Wider, Plants, node-wrote}
-use Rattle.trees.specs.Input.{tokens, Kinds, Parsed, parsed, and-second}
+use Rattle.trees.specs.Planted.{Nodes, Wider, Plants, node-wrote}
+use Rattle.trees.specs.Input.{tokens, Kinds, parsed, and-second}
 use Rattle.trees.specs.Root.{before, closed-last, Post, AtEnd, before-at-end}
-use Rattle.trees.specs.Sound.{Named, Fine, Sound}
+use Rattle.trees.specs.Sound.{Named, Fine}
 use Rattle.trees.specs.Rules.{entries, before-sound}
 
 -- a table that is one tree, whose leaves are l

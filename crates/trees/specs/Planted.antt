@@ -1,14 +1,14 @@
 -- What every program writes is a forest: its leaves are the input's tokens in their order, and a node covers whole trees. An instance of `kept`.
 -- Assumes nothing.
 use Prim.Native.Nat.{ℕ, zero, suc, _+_, _<_}
-use mathlib.Core.Path.{_≡_, refl, ap, subst, sym, _∙_}
-use mathlib.Core.List.{List, [], _∷_, _++_, append-assoc, append-nil}
+use mathlib.Core.Path.{_≡_, refl, sym, _∙_}
+use mathlib.Core.List.{List, [], _∷_, append-assoc, append-nil}
 use native.Mathlib.Omega.{arith}
 use native.Mathlib.Numerals.{add-one}
 use native.Mathlib.Nat.{zero-add, add-zero}
 use lib.ListN.{length, take, drop, getD, length-append}
 use lib.Seq.{take-suc, drop-at}
-use Rattle.definition.specs.Tape.{In, Row, State, wroteLeaf, startOf, leavesLen, nodeOver, wroteNode}
+use Rattle.definition.specs.Tape.{State, wroteLeaf, startOf, nodeOver, wroteNode}
 use Rattle.definition.specs.Prog.{Prog, Rule, eval, call}
 use Rattle.laws.specs.Kept.{After, Kept, kept}
 use Rattle.trees.specs.Forest.{Tok, Forest, none, leaf, node, _⊕_, size, bytes, leaves, rows, st, kinds, lens, inOf, app-none, app-assoc, bytes-app, leaves-app, rows-app, rows-length, rows-start, rows-leavesLen, kinds-length}
@@ -162,5 +162,6 @@ plants-kept l n =
     }
 
 -- every program of any grammar, at any depth and under any mark
-pub plants : {A : Type 0} (g : Rule → Prog ℕ) (l : List Tok) (n d m : ℕ) (p : Prog A) (s : State) → After (Plants Any l m) s (eval (inOf l n) (call g (inOf l n) d) m p s)
+pub plants : {A : Type 0} (g : Rule → Prog ℕ) (l : List Tok) (n d m : ℕ) (p : Prog A) (s : State) →
+    After (Plants Any l m) s (eval (inOf l n) (call g (inOf l n) d) m p s)
 plants g l n d m p s = kept (inOf l n) (Plants Any l) (plants-kept l n) g d m p s

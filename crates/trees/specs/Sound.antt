@@ -1,7 +1,7 @@
 -- Sound programs: they close nodes of node kinds alone, and their loops come further. `Sound p K`: p is sound, and its answers are of K.
 -- Assumes nothing.
-use Prim.Native.Nat.{ℕ, zero, suc, _+_, _≤_, _<_}
-use mathlib.Core.Path.{_≡_, refl, ap, subst, sym, _∙_}
+use Prim.Native.Nat.{ℕ, zero, suc, _≤_, _<_}
+use mathlib.Core.Path.{_≡_, refl}
 use mathlib.Core.Bool.{Bool, true, false, false≢true}
 use mathlib.Core.Logic.{_⊎_, inl, inr}
 use mathlib.Core.List.{List}
@@ -10,14 +10,13 @@ use native.Mathlib.Decide.{decLt}
 use lib.ListN.{length}
 use lib.Dec.{leb, ltb, eqb}
 use borrow.Author.Tests.{ltb-true, lt-ltb, eqb-false}
-use Rattle.definition.specs.Tape.{In, State, Out, ok, refused, andThen, choose, guard, room, hereAt, nthAt, gluedAt, leafAt, leavesAt, flushAt, bumpAt, wroteLeaf, wroteNode, closeAt}
-use Rattle.definition.specs.Operators.{Op}
+use Rattle.definition.specs.Tape.{In, State, Out, ok, refused, andThen, choose, guard, hereAt, nthAt, gluedAt, leafAt, leavesAt, flushAt, bumpAt, wroteLeaf, wroteNode, closeAt}
 use Rattle.definition.specs.Prog.{Prog, done, seq, nth, glued, here, flush, bump, scope, close, stop, enter, test, repeat, Rule, Calls, stmt-rule, item-use-rule, pat-rule, path-rule, outer-rule, binary-rule, left, turn, turns, eval, call}
 use Rattle.definition.specs.Grammar.{grammar, while, while-turn}
 use Rattle.definition.specs.Parse.{run}
 use Rattle.laws.specs.Kept.{After, Kept, kept}
 use Rattle.laws.specs.Progress.{Further, operator-at}
-use Rattle.trees.specs.Forest.{Tok, Forest, kinds, inOf, kinds-length}
+use Rattle.trees.specs.Forest.{Tok, kinds, inOf}
 use Rattle.trees.specs.Planted.{Plants, plants-same, plants-on, plants-leaf, plants-node, plants-inside}
 
 -- a node's kind
