@@ -128,6 +128,7 @@ expr-primary-safe brace range cx K h = search (groups, primary-group-safe) depth
 
 -- ## Chains, ranges, operators
 
+-- (0, no link, is not closed)
 no-kind : eqb 0 0 ≡ false → Named 0
 no-kind e = absurd (true≢false e)
 
@@ -156,7 +157,7 @@ pub operator-safe : (op : Op) → Safe (g.operator op)
 unfolding g.operator g.advance
 operator-safe op K h = search steps depth 20
 
--- what follows a lookahead that goes round a loop
+-- the operator is the next one
 abbrev pub At : In → Op → State → Type 0
 At i op s = op ≡ far.operator-at i s
 
@@ -170,8 +171,9 @@ module _ (l : List Tok) (n d : ℕ) (E : Entries l n d) (m : ℕ) where
   pub binary-fine : (op : Op) (least : ℕ) (brace cx : Bool) (s : State) → At i op s → Fine l m s Any (run i d m (g.expr-binary op least brace cx) s)
   unfolding g.expr-binary run eval Entries Asks
   binary-fine op least brace cx s e =
-      let o = call g.grammar i d (binary-rule op least brace cx) s in
-      fine-then l n m s Any Any o _ (fine-inside l n m s Any o (E (binary-rule op least brace cx) s e)) (λ k t z. fine-stay l n m t Any (eqb k 1) tt)
+      fine-then l n m s Any Any (call g.grammar i d (binary-rule op least brace cx) s) _
+      (fine-inside l n m s Any (call g.grammar i d (binary-rule op least brace cx) s) (E (binary-rule op least brace cx) s e))
+      (λ k t z. fine-stay l n m t Any (eqb k 1) tt)
 
   nest-fine : (op next : Op) (brace cx : Bool) (s : State) → At i next s → Fine l m s Any (run i d m (g.nest op next brace cx) s)
   unfolding g.nest run eval
@@ -214,7 +216,7 @@ pub operand-safe : (op : Op) (brace cx : Bool) → Safe (g.operand op brace cx)
 unfolding g.operand
 operand-safe op brace cx K h = s-scope (s-seq (s-here (λ place. s-seq (outer-safe brace false false cx _ (λ k. tighter-sound op brace cx place K (h tt))))))
 
--- the operator goes round
+-- the operator and has_any go round
 abbrev AtFirst : In → Op × Bool → State → Type 0
 AtFirst i b s = At i (b .0) s
 

@@ -55,6 +55,7 @@ guard-past false n pl k z e = absurd (z e)
 -- an input that is parsed, and its parse, over its tokens
 pub record Parsed (e : Entry) (ks ls : List ℕ) (n limit : ℕ) : Type 0 where
   pub entry : isLimit limit && isEntry e ≡ true
+  pub pair : length ks ≡ length ls
   pub all : Kinds (kinds (tokens ks ls))
   pub is : parse e ks ls n limit ≡ run (inOf (tokens ks ls) n) limit 0 (program e) start
 
@@ -69,6 +70,7 @@ parsed e ks ls n limit h =
     let pair : length ks ≡ length ls = eqb-true _ _ (g2 .0) in
     record {
       entry = g1 .0;
+      pair = pair;
       all = rw (tokens-kinds ks ls pair) (eqb-true _ _ (g4 .0));
       is = rw (tokens-kinds ks ls pair, tokens-lens ks ls pair) (g1 .1 ∙ g2 .1 ∙ g3 .1 ∙ g4 .1 ∙ g5 .1);
     }

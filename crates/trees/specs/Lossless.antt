@@ -3,7 +3,7 @@
 use Prim.Native.Nat.{ℕ, _+_, _<_}
 use mathlib.Core.Path.{_≡_, refl, ap, _∙_}
 use mathlib.Core.Bool.{Bool, true, false}
-use mathlib.Core.List.{List, [], _∷_, _++_, append-nil}
+use mathlib.Core.List.{List, [], _∷_, _++_, map, append-nil}
 use native.Mathlib.Omega.{arith}
 use lib.Dec.{ltb, leb}
 use borrow.Author.Tests.{leb-true, lt-ltb, le-ltb}
@@ -11,9 +11,9 @@ use Rattle.definition.specs.Kinds.{Root}
 use Rattle.definition.specs.Classes.{isToken}
 use Rattle.definition.specs.Tape.{Row, State, ok}
 use Rattle.definition.specs.Parse.{Entry, parse, numberOf}
-use Rattle.trees.specs.Forest.{Tok, Forest, none, leaf, node, _⊕_, size, bytes, leaves, rows, leafs, kinds, bytes-app, rows-app}
+use Rattle.trees.specs.Forest.{Tok, Forest, none, leaf, node, _⊕_, size, bytes, leaves, rows, leafs, kinds, lens, bytes-app, rows-app}
 use Rattle.trees.specs.Planted.{Nodes}
-use Rattle.trees.specs.Input.{tokens, Kinds, kinds-first, parsed, and-second}
+use Rattle.trees.specs.Input.{tokens, Kinds, tokens-kinds, tokens-lens, kinds-first, parsed, and-second}
 use Rattle.trees.specs.Sound.{Named}
 use Rattle.trees.specs.Nested.{nested}
 
@@ -94,3 +94,20 @@ lossless e ks ls n limit s h =
     let all = below-tokens (tokens ks ls) (parsed e ks ls n limit (ap numberOf h) .all) in
     let same : leaves (node Root (t .inside) none) ≡ tokens ks ls = append-nil (leaves (t .inside)) ∙ t .leaves in
     rw (t .out, forest-leafRows 0 (node Root (t .inside) none) (refl, t .nodes, tt) (rw same all), same)
+
+-- The same of the two lists: the leaf rows' kinds and lengths are those that came in.
+row-kinds : (b : ℕ) (l : List Tok) → map (λ r. r .kind) (rows b (leafs l)) ≡ kinds l
+row-kinds b [] = refl
+row-kinds b (t ∷ l) = ap (λ (x : List ℕ). t .kind ∷ x) (row-kinds (b + t .len) l)
+
+row-lens : (b : ℕ) (l : List Tok) → map (λ r. r .len) (rows b (leafs l)) ≡ lens l
+row-lens b [] = refl
+row-lens b (t ∷ l) = ap (λ (x : List ℕ). t .len ∷ x) (row-lens (b + t .len) l)
+
+pub lossless-lists : (e : Entry) (ks ls : List ℕ) (n limit : ℕ) (s : State) → parse e ks ls n limit ≡ ok tt s →
+    (map (λ r. r .kind) (leafRows (s .out)) ≡ ks) × (map (λ r. r .len) (leafRows (s .out)) ≡ ls)
+unfolding numberOf
+lossless-lists e ks ls n limit s h =
+    let pair = parsed e ks ls n limit (ap numberOf h) .pair in
+    rw (lossless e ks ls n limit s h)
+    (row-kinds 0 (tokens ks ls) ∙ tokens-kinds ks ls pair, row-lens 0 (tokens ks ls) ∙ tokens-lens ks ls pair)
