@@ -1,4 +1,5 @@
--- Sound programs: they close nodes of node kinds alone, and their loops come further. `Sound p K`: p is sound, and its answers are of K.
+-- Sound programs: they write whole trees, close nodes of node kinds alone, and are never refused with 0, since their loops come further.
+-- `Sound p K`: p is sound, and its answers are of K. One law for each form of the language; a rule is walked by them (Pieces, Expressions, Rules).
 -- Assumes nothing.
 use Prim.Native.Nat.{ℕ, zero, suc, _≤_, _<_}
 use mathlib.Core.Path.{_≡_, refl}
