@@ -1,5 +1,6 @@
 // The rules of grammar.rs that hold expressions, blocks and statements: one cycle of calls, proved equal to the definition together.
-// The toolchain joins the names of a cycle into one file name, so each is two letters. What each is called in the definition (and, with `_` for `-`, in grammar.rs):
+// The toolchain joins the names of a cycle into one file name, which a library holds up to 249 bytes, so each is one or two letters. What each is called in the
+// definition (and, with `_` for `-`, in grammar.rs):
 //
 //   ex expr-with, ou outer-expr-with, ob outer-body, oc outer-chain, o outer-assign, ot outer-rest
 //   oo outer-op, on outer-binary, pr expr-primary, pk primary-kind, pq primary-group, pp primary-path
