@@ -1,1 +1,3 @@
 pub mod Line
+pub mod LineTree
+pub mod LineDemand
