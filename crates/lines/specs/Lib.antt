@@ -1,3 +1,4 @@
 pub mod Line
 pub mod LineTree
 pub mod LineDemand
+pub mod Grouping
