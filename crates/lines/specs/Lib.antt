@@ -1,4 +1,5 @@
 pub mod Line
+pub mod LineKinds
 pub mod LineTree
 pub mod LineDemand
 pub mod Grouping
