@@ -3,3 +3,4 @@ pub mod LineKinds
 pub mod LineTree
 pub mod LineDemand
 pub mod Grouping
+pub mod Writes
