@@ -3,4 +3,5 @@ pub mod LineKinds
 pub mod LineTree
 pub mod LineDemand
 pub mod Grouping
+pub mod LineKnown
 pub mod Writes
