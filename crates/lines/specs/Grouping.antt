@@ -65,7 +65,9 @@ cut a (link b g l) h = go (cut a l (h .3)) (decLt (bind a) (bind b))
           outer = c .outer;
           whole = ap (λ (x : List Item). b ∷ x) (ap (λ (x : List Item). flatten g ++ x) (c .whole) ∙ sym (append-assoc (flatten g) (flatten (c .inner)) (flatten (c .outer))));
           tight = (p, all-append (Tighter a) (flatten g) (flatten (c .inner)) (all-map (Tighter b) (Tighter a) (λ x q. omega arith) (flatten g) (h .0)) (c .tight));
-          shapes = ((h .0, h .1, head-front (Loose b) (flatten (c .inner)) (flatten (c .outer)) (subst (λ (x : List Item). Head (Loose b) x) (c .whole) (h .2)), c .shapes .0), c .shapes .1);
+          shapes =
+              let n = head-front (Loose b) (flatten (c .inner)) (flatten (c .outer)) (subst (λ (x : List Item). Head (Loose b) x) (c .whole) (h .2)) in
+              ((h .0, h .1, n, c .shapes .0), c .shapes .1);
           next = c .next;
         }
     go c (no p) = record { inner = end; outer = link b g l; whole = refl; tight = tt; shapes = (tt, h); next = omega arith }
@@ -90,8 +92,10 @@ pub unique : (g h : Links) → Shape g → Shape h → flatten g ≡ flatten h �
 unique end end s t e = refl
 unique end (link b g l) s t e = absurd (let z : _≡_ {A = ℕ} 0 1 = cc in omega arith)
 unique (link a g l) end s t e = absurd (let z : _≡_ {A = ℕ} 0 1 = cc in omega arith)
-unique (link a g l) (link b g′ l′) s t e = go p (apart a (flatten g) (flatten g′) (flatten l) (flatten l′) (s .0) (subst (λ (x : Item). All (Tighter x) (flatten g′)) (sym p) (t .0)) (s .2) (subst (λ (x : Item). Head (Loose x) (flatten l′)) (sym p) (t .2)) q)
-    (unique g g′ (s .1) (t .1)) (unique l l′ (s .3) (t .3))
+unique (link a g l) (link b g′ l′) s t e =
+    let tight = subst (λ (x : Item). All (Tighter x) (flatten g′)) (sym p) (t .0) in
+    let next = subst (λ (x : Item). Head (Loose x) (flatten l′)) (sym p) (t .2) in
+    go p (apart a (flatten g) (flatten g′) (flatten l) (flatten l′) (s .0) tight (s .2) next q) (unique g g′ (s .1) (t .1)) (unique l l′ (s .3) (t .3))
   where
     p : a ≡ b
     p = cc
@@ -105,6 +109,20 @@ unique (link a g l) (link b g′ l′) s t e = go p (apart a (flatten g) (flatte
 pub valid-shape : (g : Links) → Valid g → Shape g
 valid-shape end v = tt
 valid-shape (link a g l) v = (v .0, valid-shape g (v .1), head-map (Follows a) (Loose a) (λ b h. h .0) (flatten l) (v .2), valid-shape l (v .3))
+
+-- A nested group binds tighter than the operator before it and its group's own operators after that (and not than all of its parent: LineKnown).
+abbrev pub own : Links → List Item
+own end = []
+own (link a g l) = a ∷ own l
+
+own-loose : (a : Item) (l : Links) → Shape l → Head (Loose a) (flatten l) → All (Loose a) (own l)
+own-loose a end s h = tt
+own-loose a (link b g l) s h = (h, own-loose a l (s .3) (head-map (Loose b) (Loose a) (λ c k. omega arith) (flatten l) (s .2)))
+
+pub tighter-after : (a : Item) (g l : Links) → Valid (link a g l) → All (λ (b : Item). All (Tighter b) (flatten g)) (a ∷ own l)
+tighter-after a g l v =
+    let s = valid-shape (link a g l) v in
+    (v .0, all-map (Loose a) (λ (b : Item). All (Tighter b) (flatten g)) (λ b k. all-map (Tighter a) (Tighter b) (λ c m. omega arith) (flatten g) (v .0)) (own l) (own-loose a l (s .3) (s .2)))
 
 -- ## Clashes, read along the list
 
@@ -358,6 +376,19 @@ left-only p m q n a b e h k f = go (align p a m q b n f)
     go (earlier w x y) = absurd (let t = in-middle a b w n (subst (λ (z : List Item). All (Tighter a) z) y h) in omega arith)
     go (later w x y) = absurd (let t = in-middle b a w m (subst (λ (z : List Item). All (Tighter b) z) y k) in omega arith)
 
+-- a clash, where its list goes on differently
+shorter : {l p : List Item} {a : Item} (c : Clash l p a) (m w : List Item) → m ≡ (p ++ (a ∷ c .between)) ++ (c .right ∷ w) → Clash m p a
+shorter c m w e =
+    record {
+      between = c .between;
+      right = c .right;
+      later = w;
+      whole = e ∙ simp append-assoc;
+      equal = c .equal;
+      loose = c .loose;
+      tight = c .tight;
+    }
+
 pub first-only : (l p q : List Item) (a b : Item) → FirstClash l p a → FirstClash l q b → (p ≡ q) × (a ≡ b)
 first-only l p q a b f g =
     go (align (p ++ (a ∷ f .clash .between)) (f .clash .right) (f .clash .later) (q ++ (b ∷ g .clash .between)) (g .clash .right) (g .clash .later)
@@ -365,5 +396,5 @@ first-only l p q a b f g =
   where
     go : Aligned (p ++ (a ∷ f .clash .between)) (f .clash .right) (f .clash .later) (q ++ (b ∷ g .clash .between)) (g .clash .right) (g .clash .later) → (p ≡ q) × (a ≡ b)
     go (same x y z) = left-only p (f .clash .between) q (g .clash .between) a b (sym (f .clash .equal) ∙ ap bind y ∙ g .clash .equal) (f .clash .tight) (g .clash .tight) x
-    go (earlier w x y) = absurd (g .first p a (record { between = f .clash .between; right = f .clash .right; later = w; whole = x ∙ simp append-assoc; equal = f .clash .equal; loose = f .clash .loose; tight = f .clash .tight }))
-    go (later w x y) = absurd (f .first q b (record { between = g .clash .between; right = g .clash .right; later = w; whole = x ∙ simp append-assoc; equal = g .clash .equal; loose = g .clash .loose; tight = g .clash .tight }))
+    go (earlier w x y) = absurd (g .first p a (shorter (f .clash) _ w x))
+    go (later w x y) = absurd (f .first q b (shorter (g .clash) _ w x))

@@ -1,13 +1,14 @@
 -- The demand on an operator line, as definitions: the call, and what its answer has to be. `LineTheorem.line` proves it.
 -- Assumes nothing.
 use Prim.Native.Nat.{ℕ, _*_, _≤_}
-use mathlib.Core.Path.{_≡_}
+use mathlib.Core.Path.{_≡_, ap, sym, _∙_}
 use mathlib.Core.Bool.{true}
-use mathlib.Core.Logic.{_⊎_}
+use mathlib.Core.Logic.{_⊎_, inl, inr}
 use mathlib.Core.List.{List}
+use native.Mathlib.Omega.{arith}
 use lib.ListN.{length}
-use Rattle.definition.specs.Tape.{Out, ok, refused, width}
-use Rattle.definition.specs.Parse.{exprs, isEntry}
+use Rattle.definition.specs.Tape.{State, Out, ok, refused, width}
+use Rattle.definition.specs.Parse.{exprs, isEntry, numberOf}
 use Rattle.definition.specs.Parse as Parse
 use Rattle.laws.specs.Sizes.{total}
 use Rattle.trees.specs.Forest.{st, kinds, lens}
@@ -42,3 +43,24 @@ pub record Answers (l : Line) (o : Out (Unit {0})) : Type 0 where
   pub either : ((g : Links) × Reads (l .rest) g) ⊎ ((before : List Item) × (left : Item) × FirstClash (l .rest) before left)
   -- and the refusal is 7, at the operand after its left operator
   pub refuses : (before : List Item) (left : Item) → FirstClash (l .rest) before left → o ≡ refused 7 (linePlace l before left)
+
+-- ## So it reads as the demand does
+
+-- accepted exactly if it reads as a grouping (`accepts` is the other half), and the grouping is the tree
+pub exactly : {l : Line} {o : Out (Unit {0})} → Answers l o → (s : State) → o ≡ ok tt s → (g : Links) × Reads (l .rest) g × (s ≡ st (lineF l g))
+unfolding numberOf
+exactly {l} {o} h s e = go (h .either)
+  where
+    go : ((g : Links) × Reads (l .rest) g) ⊎ ((before : List Item) × (left : Item) × FirstClash (l .rest) before left) → (g : Links) × Reads (l .rest) g × (s ≡ st (lineF l g))
+    go (inl r) = (r .0, r .1, let q = sym e ∙ h .accepts (r .0) (r .1) in cc)
+    go (inr c) = absurd (let q = ap numberOf (sym e ∙ h .refuses (c .0) (c .1) (c .2)) in omega (arith, q))
+
+-- otherwise refused with 7, at the operand that 01 names
+pub otherwise : {l : Line} {o : Out (Unit {0})} → Answers l o → ((g : Links) → Reads (l .rest) g → ⊥) →
+    (before : List Item) × (left : Item) × FirstClash (l .rest) before left × (o ≡ refused 7 (linePlace l before left))
+otherwise {l} {o} h n = go (h .either)
+  where
+    go : ((g : Links) × Reads (l .rest) g) ⊎ ((before : List Item) × (left : Item) × FirstClash (l .rest) before left) →
+        (before : List Item) × (left : Item) × FirstClash (l .rest) before left × (o ≡ refused 7 (linePlace l before left))
+    go (inl r) = absurd (n (r .0) (r .1))
+    go (inr c) = (c .0, c .1, c .2, h .refuses (c .0) (c .1) (c .2))

@@ -18,7 +18,7 @@ use Rattle.lines.specs.Line.{All, Item, Line, one, isNot, Links, end, li
 use Rattle.lines.specs.LineTree.{lineF, linePlace, place}
 use Rattle.lines.specs.LineDemand.{Call, enough}
 use Rattle.lines.specs.LineKinds.{every}
-use Rattle.lines.specs.Grouping.{never-both}
+use Rattle.lines.specs.Grouping.{own, never-both}
 
 -- ## 01's table: the kind, its binding, whether it is associative
 
@@ -144,11 +144,6 @@ hill-tree = link (op K-*) end (link (op K-+) (link (op K-*) end end) end)
 pub hill-reads : Reads (hill .rest) hill-tree
 unfolding bind bindings bindingIn among
 hill-reads = record { whole = refl; valid = (tt, tt, (omega arith, λ e. absurd (omega arith)), ((omega arith, tt), (tt, tt, tt, tt), tt, tt)) }
-
--- a group's own operators
-abbrev own : Links → List Item
-own end = []
-own (link a g l) = a ∷ own l
 
 pub hill-not-tighter : All (λ (a : Item). Tighter a (op K-*)) (own hill-tree) → ⊥
 hill-not-tighter h = omega (arith, h .0)
