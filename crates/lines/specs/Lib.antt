@@ -5,3 +5,4 @@ pub mod LineDemand
 pub mod Grouping
 pub mod LineKnown
 pub mod Writes
+pub mod LineRun
