@@ -1,8 +1,8 @@
 -- The definitions of an operator line at 01's table and examples, and the errors that look right in 01 shown wrong by example.
 -- Assumes nothing.
 use Prim.Native.Nat.{ℕ, zero, suc, _*_}
-use mathlib.Core.Path.{_≡_, refl, sym}
-use mathlib.Core.Bool.{Bool, true, false, not, _||_}
+use mathlib.Core.Path.{_≡_, refl}
+use mathlib.Core.Bool.{Bool, true, false, not, _||_, false≢true}
 use mathlib.Core.List.{List, [], _∷_, _++_, map}
 use native.Mathlib.Omega.{arith}
 use lib.ListN.{length}
@@ -14,7 +14,7 @@ use Rattle.definition.specs.Tape.{elements, width}
 use Rattle.laws.specs.Known.{Case, answered, promised}
 use Rattle.laws.specs.Sizes.{total}
 use Rattle.trees.specs.Forest.{Tok, rows, kinds, lens}
-use Rattle.lines.specs.Line.{All, Item, Line, one, isNot, Links, end, link, Tighter, Valid, Reads, Clash, FirstClash, spell, bind, isOperand, isOperator}
+use Rattle.lines.specs.Line.{All, Item, Line, one, isNot, Links, end, link, Tighter, Valid, Reads, FirstClash, spell, bind, isOperand, isOperator}
 use Rattle.lines.specs.LineTree.{lineF, linePlace, place}
 use Rattle.lines.specs.LineDemand.{Call, enough}
 use Rattle.lines.specs.LineKinds.{every}
@@ -134,6 +134,13 @@ pub rising-not-flat : Valid (link (op K-+) end (link (op K-*) end end)) → ⊥
 unfolding bind bindings bindingIn among
 rising-not-flat v = omega (arith, v .2 .0)
 
+-- `a + b * c`: the space after b is in the nested group, that after a in the other
+abbrev rising-spaced : Line
+rising-spaced = record { lead = []; first = tok K-ident 1; after = sp; rest = spaced K-+ 1 K-ident 1 sp ∷ spaced K-* 1 K-ident 1 sp ∷ [] }
+
+abbrev rising-spaced-tree : Links
+rising-spaced-tree = link (spaced K-+ 1 K-ident 1 sp) (link (spaced K-* 1 K-ident 1 sp) end end) end
+
 -- `a*b+c*d`: the nested group is tighter than the operator before it, and not than all of its parent
 abbrev hill : Line
 hill = of (op K-* ∷ op K-+ ∷ op K-* ∷ [])
@@ -212,6 +219,10 @@ twice-clash =
       first = λ p a c. never-both (op K-== ∷ []) (link (op K-==) end end) p a (record { whole = refl; valid = (tt, tt, tt, tt) }) c;
     }
 
+pub twice-not-flat : Valid (link (op K-==) end (link (op K-==) end end)) → ⊥
+unfolding bind bindings bindingIn among associative
+twice-not-flat v = false≢true (v .2 .1 refl)
+
 -- `a==b+c==d`: refused too, at b, though no two neighbours bind equally
 abbrev far : Line
 far = of (op K-== ∷ op K-+ ∷ op K-== ∷ [])
@@ -225,6 +236,16 @@ far-clash =
           λ p a c.
           never-both (op K-== ∷ op K-+ ∷ []) (link (op K-==) (link (op K-+) end end) end) p a
           (record { whole = refl; valid = ((omega arith, tt), (tt, tt, tt, tt), tt, tt) }) c;
+    }
+
+-- the same with a comment before it and spaces: b is token 5
+abbrev far-spaced : Line
+far-spaced =
+    record {
+      lead = tok K-Comment 7 ∷ [];
+      first = tok K-ident 1;
+      after = sp;
+      rest = spaced K-== 2 K-ident 1 sp ∷ spaced K-+ 1 K-ident 1 sp ∷ spaced K-== 2 K-ident 1 [] ∷ [];
     }
 
 pub far-not-neighbours : (bind (op K-==) ≡ bind (op K-+)) → ⊥
@@ -282,6 +303,7 @@ cases =
     tree single end ∷
     tree falling falling-tree ∷
     tree rising rising-tree ∷
+    tree rising-spaced rising-spaced-tree ∷
     tree hill hill-tree ∷
     tree both both-tree ∷
     tree guard guard-tree ∷
@@ -292,14 +314,20 @@ cases =
     asked (of (map op climb)) 13 10 22 [] ∷
     clash twice [] (op K-==) ∷
     clash far [] (op K-==) ∷
+    clash far-spaced [] (spaced K-== 2 K-ident 1 sp) ∷
     clash two (op K-+ ∷ op K-< ∷ []) (op K-as) ∷ []
 
 pub answers : map answered cases ≡ map promised cases
 unfolding answered cases spell flat elements lineF linePlace place isLit among
 answers = refl
 
--- the places, as numbers: b, b and d
-pub places : map (λ (c : Case). c .place) (clash twice [] (op K-==) ∷ clash far [] (op K-==) ∷ clash two (op K-+ ∷ op K-< ∷ []) (op K-as) ∷ []) ≡ 2 ∷ 2 ∷ 6 ∷ []
+-- the places, as numbers
+pub places :
+    linePlace twice [] (op K-==) ∷
+    linePlace far [] (op K-==) ∷
+    linePlace far-spaced [] (spaced K-== 2 K-ident 1 sp) ∷
+    linePlace two (op K-+ ∷ op K-< ∷ []) (op K-as) ∷
+    [] ≡ 2 ∷ 2 ∷ 5 ∷ 6 ∷ []
 unfolding linePlace place
 places = refl
 
