@@ -6,3 +6,4 @@ pub mod Grouping
 pub mod LineKnown
 pub mod Writes
 pub mod LineRun
+pub mod LineSim

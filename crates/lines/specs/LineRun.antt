@@ -88,7 +88,7 @@ not-sees : {u : Tok} {r : List Tok} → u .kind ≡ K-not → Sees 0 (u ∷ r) K
 unfolding treated
 not-sees {u} e = sees-to (sees-zero (not-solid u e)) (rw e)
 
-sign-solid : (s : Sign) (x : List Tok) → Operator s → Head Solid (signToks s ++ x)
+pub sign-solid : (s : Sign) (x : List Tok) → Operator s → Head Solid (signToks s ++ x)
 sign-solid (one t) x h = operator-solid t h
 sign-solid (isNot t g u) x h = operator-solid t (key-operator (isNot t g u) h)
 
