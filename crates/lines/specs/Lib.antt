@@ -7,3 +7,4 @@ pub mod LineKnown
 pub mod Writes
 pub mod LineRun
 pub mod LineSim
+pub mod LineTheorem

@@ -8,12 +8,12 @@ use mathlib.Core.List.{List, [], _∷_, _++_, append-nil, append-assoc}
 use native.Mathlib.Omega.{arith}
 use lib.ListN.{length, length-append}
 use lib.Dec.{leb, eqb}
-use borrow.Author.Tests.{eqb-true, eqb-false, leb-true, not-true}
-use Rattle.definition.specs.Kinds.{Eof, K-ident, K-::, K-is, K-not, K-bracket, K-paren, K-brace, K-!, K-?, K-dot, K-=, Lit, Path}
+use borrow.Author.Tests.{eqb-true, leb-true, not-true}
+use Rattle.definition.specs.Kinds.{Eof, K-ident, K-is, K-not, K-bracket, K-paren, K-brace, K-!, K-?, K-dot, K-=, Lit, Path}
 use Rattle.definition.specs.Classes.{among, treated, isTrivia, isLit, isPathComponent, isRange, glues, allows, linked}
 use Rattle.definition.specs.Operators.{Op, bindings, bindingIn, from-slice}
 use Rattle.definition.specs.Tape.{gluedAt}
-use Rattle.definition.specs.Prog.{done, ret, path-rule, outer-rule}
+use Rattle.definition.specs.Prog.{done, outer-rule}
 use Rattle.definition.specs.Grammar.{grammar, lookahead, advance, path, path-body, path-segments, path-segment, while-turn, expr-primary, primary-kind, primary-path, expr-chain, chain-turn, chain-step, chain-link, outer-body, outer-chain, outer-rest, outer-op}
 use Rattle.trees.specs.Forest.{Tok, Forest, none, leaf, node, _⊕_, size, leaves, st, leafs, app-assoc, size-app, leaves-app, leafs-size, leafs-leaves}
 use Rattle.lines.specs.Line.{Sign, one, isNot, Item, All, Head, Gap, isOperand, isOperator, Operand, Operator, Proper, signToks, restToks, key, bind, Links, end, link, flatten}

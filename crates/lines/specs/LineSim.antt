@@ -3,7 +3,7 @@
 use Prim.Native.Nat.{ℕ, zero, suc, _+_, _≤_, _<_}
 use mathlib.Core.Path.{_≡_, refl, ap, subst, sym, _∙_}
 use mathlib.Core.Bool.{Bool, true, false, not, cond, _&&_, _||_}
-use mathlib.Core.Logic.{_⊎_, inl}
+use mathlib.Core.Logic.{inl}
 use mathlib.Core.List.{List, [], _∷_, _++_, append-assoc}
 use native.Mathlib.Omega.{arith}
 use lib.ListN.{length, length-append}
@@ -11,15 +11,15 @@ use lib.Dec.{leb, ltb, eqb}
 use borrow.Author.Tests.{lt-ltb, le-ltb, ltb-true, leb-true, ne-eqb}
 use Rattle.definition.specs.Kinds.{ExprBinary, ExprOperator}
 use Rattle.definition.specs.Classes.{among}
-use Rattle.definition.specs.Operators.{Op, bindings, bindingIn, associative, isNone, isBelow, isTighter, clashes}
-use Rattle.definition.specs.Prog.{Prog, loop, binary-rule}
+use Rattle.definition.specs.Operators.{bindings, bindingIn, associative, isNone, isBelow, isTighter, clashes}
+use Rattle.definition.specs.Prog.{loop}
 use Rattle.definition.specs.Grammar.{grammar, operator, operand, nest, tighter-turn, binary-turn, binary-body, expr-binary, outer-expr-with}
 use Rattle.trees.specs.Forest.{Tok, Forest, _⊕_, size, leaves, leafs, app-none, app-assoc, size-app, leaves-app, leafs-size, leafs-leaves}
 use Rattle.lines.specs.Line.{Item, All, Head, Proper, signToks, restToks, bind, Links, end, link, flatten, Tighter}
 use Rattle.lines.specs.LineKinds.{every, everyIn}
 use Rattle.lines.specs.LineTree.{operandF, signF, around, linksF, place}
 use Rattle.lines.specs.Grouping.{Verdict, fine, clash, past, orElse, neighbour, judge, Shape, Loose, all-map, all-back, head-map}
-use Rattle.lines.specs.Writes.{Job, At, Got, got, halt, Runs, Enters, at-on, at-leafs, at-as, count, seq-ok, seq-no, test-yes, test-no, done-ok, stop-no, loop-end, loop-no, loop-more, enter-ok, call-ok, to, halt-to, scope-ok, scope-here, close-ok, here-ok}
+use Rattle.lines.specs.Writes.{Job, At, Got, got, halt, Runs, at-on, at-leafs, at-as, count, seq-ok, seq-no, test-yes, test-no, done-ok, stop-no, loop-end, loop-no, loop-more, enter-ok, call-ok, to, halt-to, scope-ok, scope-here, close-ok, here-ok}
 use Rattle.lines.specs.LineRun.{bind-every, bind-pos, operand-solid, sign-solid, opOf, nextOp, look-ok, advance-ok, operandG, operandG-at, operand-ok, rest-app, rest-length, wrap, around-size, signF-leaves, groupF, group-size, group-leaves, link-size}
 
 -- what a verdict makes of an outcome, where n tokens stand before

@@ -1,7 +1,7 @@
 -- The programs of Prog where the state is `st f`: what the forest f has written is in front of what is still to come, `At`. `Runs` is a program's way from one
 -- forest to another, with a law for each construct and each move; for any "these tokens give this tree". Nothing here is about lines.
 -- Assumes nothing.
-use Prim.Native.Nat.{ℕ, suc, _+_, _-_, _≤_, _<_}
+use Prim.Native.Nat.{ℕ, suc, _+_, _-_, _*_, _≤_, _<_}
 use mathlib.Core.Path.{_≡_, refl, ap, subst, sym, _∙_}
 use mathlib.Core.Bool.{Bool, true, false}
 use mathlib.Core.Logic.{_⊎_, inl, inr}
@@ -12,7 +12,7 @@ use lib.Seq.{getD-append-seam, drop-append-seam}
 use borrow.Author.Tests.{lt-ltb}
 use Rattle.definition.specs.Kinds.{Eof}
 use Rattle.definition.specs.Classes.{isTrivia, treated}
-use Rattle.definition.specs.Tape.{In, Row, State, Out, ok, refused, andThen, choose, guard, triv, nthKind, hereAt, nthAt, gluedAt, room, wroteLeaf, leafAt, leavesAt, flushAt, bumpAt, startOf, leavesLen, nodeOver, wroteNode, closeAt, capacity}
+use Rattle.definition.specs.Tape.{In, Row, State, Out, ok, refused, andThen, choose, guard, triv, nthKind, hereAt, nthAt, gluedAt, room, wroteLeaf, leafAt, leavesAt, flushAt, bumpAt, startOf, nodeOver, wroteNode, closeAt, width, capacity}
 use Rattle.definition.specs.Prog.{Prog, done, seq, nth, glued, here, flush, bump, scope, close, stop, enter, test, repeat, Rule, Calls, left, turn, eval, call}
 use Rattle.definition.specs.Grammar.{grammar}
 use Rattle.laws.specs.Unroll.{unroll}
@@ -74,6 +74,10 @@ pub record Job : Type 0 where
   pub elems : ℕ
   pub most : ℕ
   pub fit : most ≤ capacity elems
+
+pub fits : (r n : ℕ) → width * r ≤ n → r ≤ 4294967295 → r ≤ capacity n
+unfolding capacity
+fits r n h k = omega arith
 
 abbrev pub input : Job → In
 input c = inOf (c .toks) (c .elems)
