@@ -80,14 +80,19 @@ shape (a ∷ l) =
     let c = cut a (s .0) (s .2) in
     (link a (c .inner) (c .outer), ap (λ (x : List Item). a ∷ x) (sym (c .whole) ∙ s .1), (c .tight, c .shapes .0, c .next, c .shapes .1))
 
--- and only one
-apart : (a : Item) (x x′ y y′ : List Item) → All (Tighter a) x → All (Tighter a) x′ → Head (Loose a) y → Head (Loose a) y′ →
+-- where two lists part into what has P and what follows without it, they part alike
+pub apart : {A : Type 0} (P Q : A → Type 0) → ((a : A) → P a → Q a → ⊥) → (x x′ y y′ : List A) → All P x → All P x′ → Head Q y → Head Q y′ →
     x ++ y ≡ x′ ++ y′ → (x ≡ x′) × (y ≡ y′)
-apart a [] [] y y′ h h′ k k′ e = (refl, e)
-apart a [] (b ∷ x′) y y′ h h′ k k′ e = absurd (let q : bind b ≤ bind a = subst (λ (z : List Item). Head (Loose a) z) e k in omega (arith, h′ .0))
-apart a (b ∷ x) [] y y′ h h′ k k′ e = absurd (let q : bind b ≤ bind a = subst (λ (z : List Item). Head (Loose a) z) (sym e) k′ in omega (arith, h .0))
-apart a (b ∷ x) (c ∷ x′) y y′ h h′ k k′ e = let r = apart a x x′ y y′ (h .1) (h′ .1) k k′ (cc) in let q = r .0 in let p : b ≡ c = cc in (cc, r .1)
+apart P Q f [] [] y y′ h h′ k k′ e = (refl, e)
+apart P Q f [] (b ∷ x′) y y′ h h′ k k′ e = absurd (f b (h′ .0) (subst (λ (z : List _). Head Q z) e k))
+apart P Q f (b ∷ x) [] y y′ h h′ k k′ e = absurd (f b (h .0) (subst (λ (z : List _). Head Q z) (sym e) k′))
+apart P Q f (b ∷ x) (c ∷ x′) y y′ h h′ k k′ e =
+    let r = apart P Q f x x′ y y′ (h .1) (h′ .1) k k′ (cc) in
+    let q = r .0 in
+    let p : b ≡ c = cc in
+    (cc, r .1)
 
+-- and only one
 pub unique : (g h : Links) → Shape g → Shape h → flatten g ≡ flatten h → g ≡ h
 unique end end s t e = refl
 unique end (link b g l) s t e = absurd (let z : _≡_ {A = ℕ} 0 1 = cc in omega arith)
@@ -95,7 +100,7 @@ unique (link a g l) end s t e = absurd (let z : _≡_ {A = ℕ} 0 1 = cc in omeg
 unique (link a g l) (link b g′ l′) s t e =
     let tight = subst (λ (x : Item). All (Tighter x) (flatten g′)) (sym p) (t .0) in
     let next = subst (λ (x : Item). Head (Loose x) (flatten l′)) (sym p) (t .2) in
-    go p (apart a (flatten g) (flatten g′) (flatten l) (flatten l′) (s .0) tight (s .2) next q) (unique g g′ (s .1) (t .1)) (unique l l′ (s .3) (t .3))
+    go p (apart (Tighter a) (Loose a) (λ b t l. omega arith) (flatten g) (flatten g′) (flatten l) (flatten l′) (s .0) tight (s .2) next q) (unique g g′ (s .1) (t .1)) (unique l l′ (s .3) (t .3))
   where
     p : a ≡ b
     p = cc
