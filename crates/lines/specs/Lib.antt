@@ -4,6 +4,7 @@ pub mod LineTree
 pub mod LineDemand
 pub mod Grouping
 pub mod LineKnown
+pub mod LineSpell
 pub mod Writes
 pub mod LineRun
 pub mod LineSim
