@@ -4,8 +4,8 @@ pub mod LineTree
 pub mod LineDemand
 pub mod Grouping
 pub mod LineKnown
-pub mod LineSpell
 pub mod Writes
 pub mod LineRun
+pub mod LineSpell
 pub mod LineSim
 pub mod LineTheorem

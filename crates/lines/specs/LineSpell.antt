@@ -2,36 +2,18 @@
 -- Assumes nothing.
 use Prim.Native.Nat.{ℕ}
 use mathlib.Core.Path.{_≡_, refl, ap, sym, _∙_}
-use mathlib.Core.Bool.{Bool, true, false, not, false≢true}
+use mathlib.Core.Bool.{true, false≢true}
 use mathlib.Core.List.{List, [], _∷_, _++_, append-assoc}
 use native.Mathlib.Omega.{arith}
-use lib.ListN.{length}
-use borrow.Author.Tests.{not-true}
-use Rattle.definition.specs.Kinds.{K-is, K-not}
+use Rattle.definition.specs.Kinds.{K-not}
 use Rattle.definition.specs.Classes.{among, isTrivia, isLit}
-use Rattle.definition.specs.Operators.{bindings}
 use Rattle.trees.specs.Forest.{Tok}
 use Rattle.lines.specs.Line.{Sign, one, isNot, Item, Line, All, Head, Gap, Operand, Operator, Proper, ProperLine, isOperand, signToks, restToks, spell}
-use Rattle.lines.specs.LineKinds.{every, everyIn, operand-every, operator-every}
 use Rattle.lines.specs.Grouping.{apart}
+use Rattle.lines.specs.Writes.{Solid}
+use Rattle.lines.specs.LineRun.{operand-solid, sign-solid, rest-solid}
 
 -- ## What is no trivia
-
-abbrev Solid : Tok → Type 0
-Solid t = isTrivia (t .kind) ≡ false
-
-operand-solid : (t : Tok) → Operand t → Solid t
-unfolding every isTrivia among
-operand-solid t h = not-true (isTrivia (t .kind)) (operand-every (λ k. not (isTrivia k)) refl (t .kind) h)
-
-sign-solid : (s : Sign) (x : List Tok) → Operator s → Head Solid (signToks s ++ x)
-unfolding every everyIn bindings isTrivia among
-sign-solid (one t) x h = not-true (isTrivia (t .kind)) (operator-every (λ k. not (isTrivia k)) refl (t .kind) h)
-sign-solid (isNot t g u) x h = rw (h .0) refl
-
-rest-solid : (l : List Item) → All Proper l → Head Solid (restToks l)
-rest-solid [] h = tt
-rest-solid (a ∷ l) h = sign-solid (a .sign) _ (h .0 .sign)
 
 not-solid : (t : Tok) → t .kind ≡ K-not → Solid t
 unfolding isTrivia among
