@@ -3,9 +3,9 @@ pub mod LineKinds
 pub mod LineTree
 pub mod LineDemand
 pub mod Grouping
-pub mod LineKnown
 pub mod Writes
 pub mod LineRun
 pub mod LineSpell
 pub mod LineSim
 pub mod LineTheorem
+pub mod LineKnown

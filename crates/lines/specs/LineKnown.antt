@@ -10,15 +10,16 @@ use Rattle.definition.specs.Kinds.{Root, Expr, Path, ExprBinary, ExprOperator, 
 use Rattle.definition.specs.Classes.{among, isTrivia, isLit, isToken}
 use Rattle.definition.specs.Operators.{bindings, bindingIn, associative, from-slice}
 use Rattle.definition.specs.Parse.{exprs, isEntry, flat}
-use Rattle.definition.specs.Tape.{elements, width}
+use Rattle.definition.specs.Tape.{ok, refused, elements, width}
 use Rattle.laws.specs.Known.{Case, answered, promised}
 use Rattle.laws.specs.Sizes.{total}
-use Rattle.trees.specs.Forest.{Tok, rows, kinds, lens}
+use Rattle.trees.specs.Forest.{Tok, rows, st, kinds, lens}
 use Rattle.lines.specs.Line.{All, Item, Line, one, isNot, Links, end, link, Tighter, Valid, Reads, FirstClash, spell, bind, isOperand, isOperator}
 use Rattle.lines.specs.LineTree.{lineF, linePlace, place}
-use Rattle.lines.specs.LineDemand.{Call, enough}
+use Rattle.lines.specs.LineDemand.{parse, Call, enough}
 use Rattle.lines.specs.LineKinds.{every}
 use Rattle.lines.specs.Grouping.{own, never-both}
+use Rattle.lines.specs.LineTheorem.{line}
 
 -- ## 01's table: the kind, its binding, whether it is associative
 
@@ -355,3 +356,12 @@ sum-call =
       shallow = omega arith;
       separates = refl;
     }
+
+-- ## The theorem at two of them: any separator, table and limit that the demand names
+
+pub guard-accepted : (separator n limit : ℕ) → Call guard separator n limit → parse guard separator n limit ≡ ok tt (st (lineF guard guard-tree))
+guard-accepted separator n limit c = line guard separator n limit c .accepts guard-tree guard-reads
+
+pub far-refused : (separator n limit : ℕ) → Call far separator n limit → parse far separator n limit ≡ refused 7 2
+unfolding linePlace place
+far-refused separator n limit c = line far separator n limit c .refuses [] (op K-==) far-clash
