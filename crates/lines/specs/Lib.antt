@@ -1,5 +1,6 @@
 pub mod Line
 pub mod LineKinds
+pub mod LineTable
 pub mod LineTree
 pub mod LineDemand
 pub mod Grouping

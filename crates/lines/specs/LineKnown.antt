@@ -1,14 +1,14 @@
--- The definitions of an operator line at 01's table and examples, and the errors that look right in 01 shown wrong by example.
+-- The definitions of an operator line at 01's examples, and the errors that look right in 01 shown wrong by example.
 -- Assumes nothing.
-use Prim.Native.Nat.{ℕ, zero, suc, _*_}
+use Prim.Native.Nat.{ℕ, _*_}
 use mathlib.Core.Path.{_≡_, refl}
-use mathlib.Core.Bool.{Bool, true, false, not, _||_, false≢true}
+use mathlib.Core.Bool.{false≢true}
 use mathlib.Core.List.{List, [], _∷_, _++_, map}
 use native.Mathlib.Omega.{arith}
 use lib.ListN.{length}
-use Rattle.definition.specs.Kinds.{Root, Expr, Path, ExprBinary, ExprOperator, K-comma, K-ident, K-number, K-Whitespace, K-Comment, K-&, K-*, K-<, K->, K-+, K-dash, K-/, K-%, K-==, K-!=, K-<=, K->=, K-&&, K-||, K-<<, K->>, K-^, K-|, K-as, K-is, K-not, K-+=, K-dash=, K-*=, K-/=, K-%=, K-&=, K-^=, K-|=, K-<<=, K->>=}
+use Rattle.definition.specs.Kinds.{Root, Expr, Path, ExprBinary, ExprOperator, K-comma, K-ident, K-number, K-Whitespace, K-Comment, K-&, K-*, K-<, K-+, K-dash, K-==, K-&&, K-||, K-<<, K-^, K-|, K-as, K-is, K-not, K-+=}
 use Rattle.definition.specs.Classes.{among, isTrivia, isLit, isToken}
-use Rattle.definition.specs.Operators.{bindings, bindingIn, associative, from-slice}
+use Rattle.definition.specs.Operators.{bindings, bindingIn, associative}
 use Rattle.definition.specs.Parse.{exprs, isEntry, flat}
 use Rattle.definition.specs.Tape.{ok, refused, elements, width}
 use Rattle.laws.specs.Known.{Case, answered, promised}
@@ -17,59 +17,10 @@ use Rattle.trees.specs.Forest.{Tok, rows, st, kinds, lens}
 use Rattle.lines.specs.Line.{All, Item, Line, one, isNot, Links, end, link, Tighter, Valid, Reads, FirstClash, spell, bind, isOperand, isOperator}
 use Rattle.lines.specs.LineTree.{lineF, linePlace, place}
 use Rattle.lines.specs.LineDemand.{parse, Call, enough}
-use Rattle.lines.specs.LineKinds.{every}
 use Rattle.lines.specs.Grouping.{own, never-both}
 use Rattle.lines.specs.LineTheorem.{line}
 
--- ## 01's table: the kind, its binding, whether it is associative
-
-pub record Entry : Type 0 where
-  pub operator : ℕ
-  pub binding : ℕ
-  pub assoc : Bool
-
-abbrev entries : ℕ → Bool → List ℕ → List Entry → List Entry
-entries b x [] t = t
-entries b x (k ∷ l) t = record { operator = k; binding = b; assoc = x } ∷ entries b x l t
-
-unfoldable pub table : List Entry
-table =
-    entries 13 false (K-as ∷ K-is ∷ [])
-    (entries 11 true (K-* ∷ K-/ ∷ K-% ∷ [])
-    (entries 10 true (K-+ ∷ K-dash ∷ [])
-    (entries 9 true (K-<< ∷ K->> ∷ [])
-    (entries 8 true (K-& ∷ [])
-    (entries 7 true (K-^ ∷ [])
-    (entries 6 true (K-| ∷ [])
-    (entries 5 false (K-== ∷ K-!= ∷ K-< ∷ K-> ∷ K-<= ∷ K->= ∷ [])
-    (entries 4 true (K-&& ∷ [])
-    (entries 3 true (K-|| ∷ [])
-    (entries 1 false (K-+= ∷ K-dash= ∷ K-*= ∷ K-/= ∷ K-%= ∷ K-&= ∷ K-^= ∷ K-|= ∷ K-<<= ∷ K->>= ∷ [])
-    []))))))))))
-
-abbrev pub found : Entry → Entry
-found e = record { operator = e .operator; binding = bindingIn (e .operator) bindings; assoc = associative (bindingIn (e .operator) bindings) }
-
--- each operator is found in the definition as the table has it
-pub table-is : map found table ≡ table
-unfolding table bindings bindingIn associative among
-table-is = refl
-
--- and no other kind is one
-abbrev upTo : ℕ → List ℕ
-upTo zero = []
-upTo (suc n) = n ∷ upTo n
-
-pub no-other : every (λ k. not (isOperator k) || among k (map (λ (e : Entry). e .operator) table)) (upTo 256) ≡ true
-unfolding every table isOperator bindings bindingIn among
-no-other = refl
-
--- `is not` is two tokens, and binds as `is` does
-pub is-not : from-slice K-is K-not ≡ record { binding = 13; tokens = 2 }
-unfolding from-slice bindings bindingIn among
-is-not = refl
-
--- ## Lines. The operands are a, b, c .. unless written otherwise
+-- ## Lines. Operands are a, b, c .. where nothing else is written
 
 abbrev tok : ℕ → ℕ → Tok
 tok k n = record { kind = k; len = n }
@@ -81,7 +32,7 @@ op k = record { sign = one (tok k 1); gap = []; operand = tok K-ident 1; after =
 abbrev of : List Item → Line
 of l = record { lead = []; first = tok K-ident 1; after = []; rest = l }
 
--- an operator with a space before and after its operand, but for the last
+-- a space; an operator of n bytes, a space, and an operand of kind o and m bytes with w after it
 abbrev sp : List Tok
 sp = tok K-Whitespace 1 ∷ []
 
