@@ -8,6 +8,7 @@ pub mod bench;
 pub mod check;
 mod drive;
 pub mod edges;
+pub mod lines;
 mod lists;
 // Calls into the archive, and a look at the stack that they used.
 #[allow(unsafe_code)]

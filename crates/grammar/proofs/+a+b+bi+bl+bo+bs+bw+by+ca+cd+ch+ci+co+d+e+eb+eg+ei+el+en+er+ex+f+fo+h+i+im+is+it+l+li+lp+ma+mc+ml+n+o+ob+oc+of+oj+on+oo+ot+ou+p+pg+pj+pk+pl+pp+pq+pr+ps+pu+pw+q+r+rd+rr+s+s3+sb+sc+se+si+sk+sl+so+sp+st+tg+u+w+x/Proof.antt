@@ -22,231 +22,231 @@ use Rattle.kinds.specs.Ops.{opOf}
 use Prim.Native.Nat.{ℕ, _<_}
 use borrow.Fn.Kinds.{In}
 use borrow.Fn.PlainCycle.{Measures, is, falls, and}
-use Rattle.grammar.proofs.ai.Reads as ai
-use Rattle.grammar.proofs.ai.Kinds as ai-kinds
-use Rattle.grammar.proofs.+ai+bb+bi+bl+bo+bs+bw+by+ca+cd+ch+ci+co+cs+ea+eb+eg+ei+el+en+er+ex+fi+fo+ic+ii+im+is+it+lc+li+lp+ma+mc+ml+ne+oa+ob+oc+of+oj+on+oo+ot+ou+pa+pg+pj+pk+pl+pp+pq+pr+ps+pu+pw+px+ra+rd+rr+s2+s3+sb+sc+se+si+sk+sl+so+sp+st+tg+tl+wh+xl.Lts-ai as ai-lts
-use Rattle.grammar.proofs.bb.Reads as bb
-use Rattle.grammar.proofs.bb.Kinds as bb-kinds
-use Rattle.grammar.proofs.+ai+bb+bi+bl+bo+bs+bw+by+ca+cd+ch+ci+co+cs+ea+eb+eg+ei+el+en+er+ex+fi+fo+ic+ii+im+is+it+lc+li+lp+ma+mc+ml+ne+oa+ob+oc+of+oj+on+oo+ot+ou+pa+pg+pj+pk+pl+pp+pq+pr+ps+pu+pw+px+ra+rd+rr+s2+s3+sb+sc+se+si+sk+sl+so+sp+st+tg+tl+wh+xl.Lts-bb as bb-lts
+use Rattle.grammar.proofs.a.Reads as a
+use Rattle.grammar.proofs.a.Kinds as a-kinds
+use Rattle.grammar.proofs.+a+b+bi+bl+bo+bs+bw+by+ca+cd+ch+ci+co+d+e+eb+eg+ei+el+en+er+ex+f+fo+h+i+im+is+it+l+li+lp+ma+mc+ml+n+o+ob+oc+of+oj+on+oo+ot+ou+p+pg+pj+pk+pl+pp+pq+pr+ps+pu+pw+q+r+rd+rr+s+s3+sb+sc+se+si+sk+sl+so+sp+st+tg+u+w+x.Lts-a as a-lts
+use Rattle.grammar.proofs.b.Reads as b
+use Rattle.grammar.proofs.b.Kinds as b-kinds
+use Rattle.grammar.proofs.+a+b+bi+bl+bo+bs+bw+by+ca+cd+ch+ci+co+d+e+eb+eg+ei+el+en+er+ex+f+fo+h+i+im+is+it+l+li+lp+ma+mc+ml+n+o+ob+oc+of+oj+on+oo+ot+ou+p+pg+pj+pk+pl+pp+pq+pr+ps+pu+pw+q+r+rd+rr+s+s3+sb+sc+se+si+sk+sl+so+sp+st+tg+u+w+x.Lts-b as b-lts
 use Rattle.grammar.proofs.bi.Reads as bi
 use Rattle.grammar.proofs.bi.Kinds as bi-kinds
-use Rattle.grammar.proofs.+ai+bb+bi+bl+bo+bs+bw+by+ca+cd+ch+ci+co+cs+ea+eb+eg+ei+el+en+er+ex+fi+fo+ic+ii+im+is+it+lc+li+lp+ma+mc+ml+ne+oa+ob+oc+of+oj+on+oo+ot+ou+pa+pg+pj+pk+pl+pp+pq+pr+ps+pu+pw+px+ra+rd+rr+s2+s3+sb+sc+se+si+sk+sl+so+sp+st+tg+tl+wh+xl.Lts-bi as bi-lts
+use Rattle.grammar.proofs.+a+b+bi+bl+bo+bs+bw+by+ca+cd+ch+ci+co+d+e+eb+eg+ei+el+en+er+ex+f+fo+h+i+im+is+it+l+li+lp+ma+mc+ml+n+o+ob+oc+of+oj+on+oo+ot+ou+p+pg+pj+pk+pl+pp+pq+pr+ps+pu+pw+q+r+rd+rr+s+s3+sb+sc+se+si+sk+sl+so+sp+st+tg+u+w+x.Lts-bi as bi-lts
 use Rattle.grammar.proofs.bl.Reads as bl
 use Rattle.grammar.proofs.bl.Kinds as bl-kinds
-use Rattle.grammar.proofs.+ai+bb+bi+bl+bo+bs+bw+by+ca+cd+ch+ci+co+cs+ea+eb+eg+ei+el+en+er+ex+fi+fo+ic+ii+im+is+it+lc+li+lp+ma+mc+ml+ne+oa+ob+oc+of+oj+on+oo+ot+ou+pa+pg+pj+pk+pl+pp+pq+pr+ps+pu+pw+px+ra+rd+rr+s2+s3+sb+sc+se+si+sk+sl+so+sp+st+tg+tl+wh+xl.Lts-bl as bl-lts
+use Rattle.grammar.proofs.+a+b+bi+bl+bo+bs+bw+by+ca+cd+ch+ci+co+d+e+eb+eg+ei+el+en+er+ex+f+fo+h+i+im+is+it+l+li+lp+ma+mc+ml+n+o+ob+oc+of+oj+on+oo+ot+ou+p+pg+pj+pk+pl+pp+pq+pr+ps+pu+pw+q+r+rd+rr+s+s3+sb+sc+se+si+sk+sl+so+sp+st+tg+u+w+x.Lts-bl as bl-lts
 use Rattle.grammar.proofs.bo.Reads as bo
 use Rattle.grammar.proofs.bo.Kinds as bo-kinds
-use Rattle.grammar.proofs.+ai+bb+bi+bl+bo+bs+bw+by+ca+cd+ch+ci+co+cs+ea+eb+eg+ei+el+en+er+ex+fi+fo+ic+ii+im+is+it+lc+li+lp+ma+mc+ml+ne+oa+ob+oc+of+oj+on+oo+ot+ou+pa+pg+pj+pk+pl+pp+pq+pr+ps+pu+pw+px+ra+rd+rr+s2+s3+sb+sc+se+si+sk+sl+so+sp+st+tg+tl+wh+xl.Lts-bo as bo-lts
+use Rattle.grammar.proofs.+a+b+bi+bl+bo+bs+bw+by+ca+cd+ch+ci+co+d+e+eb+eg+ei+el+en+er+ex+f+fo+h+i+im+is+it+l+li+lp+ma+mc+ml+n+o+ob+oc+of+oj+on+oo+ot+ou+p+pg+pj+pk+pl+pp+pq+pr+ps+pu+pw+q+r+rd+rr+s+s3+sb+sc+se+si+sk+sl+so+sp+st+tg+u+w+x.Lts-bo as bo-lts
 use Rattle.grammar.proofs.bs.Reads as bs
 use Rattle.grammar.proofs.bs.Kinds as bs-kinds
-use Rattle.grammar.proofs.+ai+bb+bi+bl+bo+bs+bw+by+ca+cd+ch+ci+co+cs+ea+eb+eg+ei+el+en+er+ex+fi+fo+ic+ii+im+is+it+lc+li+lp+ma+mc+ml+ne+oa+ob+oc+of+oj+on+oo+ot+ou+pa+pg+pj+pk+pl+pp+pq+pr+ps+pu+pw+px+ra+rd+rr+s2+s3+sb+sc+se+si+sk+sl+so+sp+st+tg+tl+wh+xl.Lts-bs as bs-lts
+use Rattle.grammar.proofs.+a+b+bi+bl+bo+bs+bw+by+ca+cd+ch+ci+co+d+e+eb+eg+ei+el+en+er+ex+f+fo+h+i+im+is+it+l+li+lp+ma+mc+ml+n+o+ob+oc+of+oj+on+oo+ot+ou+p+pg+pj+pk+pl+pp+pq+pr+ps+pu+pw+q+r+rd+rr+s+s3+sb+sc+se+si+sk+sl+so+sp+st+tg+u+w+x.Lts-bs as bs-lts
 use Rattle.grammar.proofs.bw.Reads as bw
 use Rattle.grammar.proofs.bw.Kinds as bw-kinds
-use Rattle.grammar.proofs.+ai+bb+bi+bl+bo+bs+bw+by+ca+cd+ch+ci+co+cs+ea+eb+eg+ei+el+en+er+ex+fi+fo+ic+ii+im+is+it+lc+li+lp+ma+mc+ml+ne+oa+ob+oc+of+oj+on+oo+ot+ou+pa+pg+pj+pk+pl+pp+pq+pr+ps+pu+pw+px+ra+rd+rr+s2+s3+sb+sc+se+si+sk+sl+so+sp+st+tg+tl+wh+xl.Lts-bw as bw-lts
+use Rattle.grammar.proofs.+a+b+bi+bl+bo+bs+bw+by+ca+cd+ch+ci+co+d+e+eb+eg+ei+el+en+er+ex+f+fo+h+i+im+is+it+l+li+lp+ma+mc+ml+n+o+ob+oc+of+oj+on+oo+ot+ou+p+pg+pj+pk+pl+pp+pq+pr+ps+pu+pw+q+r+rd+rr+s+s3+sb+sc+se+si+sk+sl+so+sp+st+tg+u+w+x.Lts-bw as bw-lts
 use Rattle.grammar.proofs.by.Reads as by
 use Rattle.grammar.proofs.by.Kinds as by-kinds
-use Rattle.grammar.proofs.+ai+bb+bi+bl+bo+bs+bw+by+ca+cd+ch+ci+co+cs+ea+eb+eg+ei+el+en+er+ex+fi+fo+ic+ii+im+is+it+lc+li+lp+ma+mc+ml+ne+oa+ob+oc+of+oj+on+oo+ot+ou+pa+pg+pj+pk+pl+pp+pq+pr+ps+pu+pw+px+ra+rd+rr+s2+s3+sb+sc+se+si+sk+sl+so+sp+st+tg+tl+wh+xl.Lts-by as by-lts
+use Rattle.grammar.proofs.+a+b+bi+bl+bo+bs+bw+by+ca+cd+ch+ci+co+d+e+eb+eg+ei+el+en+er+ex+f+fo+h+i+im+is+it+l+li+lp+ma+mc+ml+n+o+ob+oc+of+oj+on+oo+ot+ou+p+pg+pj+pk+pl+pp+pq+pr+ps+pu+pw+q+r+rd+rr+s+s3+sb+sc+se+si+sk+sl+so+sp+st+tg+u+w+x.Lts-by as by-lts
 use Rattle.grammar.proofs.ca.Reads as ca
 use Rattle.grammar.proofs.ca.Kinds as ca-kinds
-use Rattle.grammar.proofs.+ai+bb+bi+bl+bo+bs+bw+by+ca+cd+ch+ci+co+cs+ea+eb+eg+ei+el+en+er+ex+fi+fo+ic+ii+im+is+it+lc+li+lp+ma+mc+ml+ne+oa+ob+oc+of+oj+on+oo+ot+ou+pa+pg+pj+pk+pl+pp+pq+pr+ps+pu+pw+px+ra+rd+rr+s2+s3+sb+sc+se+si+sk+sl+so+sp+st+tg+tl+wh+xl.Lts-ca as ca-lts
+use Rattle.grammar.proofs.+a+b+bi+bl+bo+bs+bw+by+ca+cd+ch+ci+co+d+e+eb+eg+ei+el+en+er+ex+f+fo+h+i+im+is+it+l+li+lp+ma+mc+ml+n+o+ob+oc+of+oj+on+oo+ot+ou+p+pg+pj+pk+pl+pp+pq+pr+ps+pu+pw+q+r+rd+rr+s+s3+sb+sc+se+si+sk+sl+so+sp+st+tg+u+w+x.Lts-ca as ca-lts
 use Rattle.grammar.proofs.cd.Reads as cd
 use Rattle.grammar.proofs.cd.Kinds as cd-kinds
-use Rattle.grammar.proofs.+ai+bb+bi+bl+bo+bs+bw+by+ca+cd+ch+ci+co+cs+ea+eb+eg+ei+el+en+er+ex+fi+fo+ic+ii+im+is+it+lc+li+lp+ma+mc+ml+ne+oa+ob+oc+of+oj+on+oo+ot+ou+pa+pg+pj+pk+pl+pp+pq+pr+ps+pu+pw+px+ra+rd+rr+s2+s3+sb+sc+se+si+sk+sl+so+sp+st+tg+tl+wh+xl.Lts-cd as cd-lts
+use Rattle.grammar.proofs.+a+b+bi+bl+bo+bs+bw+by+ca+cd+ch+ci+co+d+e+eb+eg+ei+el+en+er+ex+f+fo+h+i+im+is+it+l+li+lp+ma+mc+ml+n+o+ob+oc+of+oj+on+oo+ot+ou+p+pg+pj+pk+pl+pp+pq+pr+ps+pu+pw+q+r+rd+rr+s+s3+sb+sc+se+si+sk+sl+so+sp+st+tg+u+w+x.Lts-cd as cd-lts
 use Rattle.grammar.proofs.ch.Reads as ch
 use Rattle.grammar.proofs.ch.Kinds as ch-kinds
-use Rattle.grammar.proofs.+ai+bb+bi+bl+bo+bs+bw+by+ca+cd+ch+ci+co+cs+ea+eb+eg+ei+el+en+er+ex+fi+fo+ic+ii+im+is+it+lc+li+lp+ma+mc+ml+ne+oa+ob+oc+of+oj+on+oo+ot+ou+pa+pg+pj+pk+pl+pp+pq+pr+ps+pu+pw+px+ra+rd+rr+s2+s3+sb+sc+se+si+sk+sl+so+sp+st+tg+tl+wh+xl.Lts-ch as ch-lts
+use Rattle.grammar.proofs.+a+b+bi+bl+bo+bs+bw+by+ca+cd+ch+ci+co+d+e+eb+eg+ei+el+en+er+ex+f+fo+h+i+im+is+it+l+li+lp+ma+mc+ml+n+o+ob+oc+of+oj+on+oo+ot+ou+p+pg+pj+pk+pl+pp+pq+pr+ps+pu+pw+q+r+rd+rr+s+s3+sb+sc+se+si+sk+sl+so+sp+st+tg+u+w+x.Lts-ch as ch-lts
 use Rattle.grammar.proofs.ci.Reads as ci
 use Rattle.grammar.proofs.ci.Kinds as ci-kinds
-use Rattle.grammar.proofs.+ai+bb+bi+bl+bo+bs+bw+by+ca+cd+ch+ci+co+cs+ea+eb+eg+ei+el+en+er+ex+fi+fo+ic+ii+im+is+it+lc+li+lp+ma+mc+ml+ne+oa+ob+oc+of+oj+on+oo+ot+ou+pa+pg+pj+pk+pl+pp+pq+pr+ps+pu+pw+px+ra+rd+rr+s2+s3+sb+sc+se+si+sk+sl+so+sp+st+tg+tl+wh+xl.Lts-ci as ci-lts
+use Rattle.grammar.proofs.+a+b+bi+bl+bo+bs+bw+by+ca+cd+ch+ci+co+d+e+eb+eg+ei+el+en+er+ex+f+fo+h+i+im+is+it+l+li+lp+ma+mc+ml+n+o+ob+oc+of+oj+on+oo+ot+ou+p+pg+pj+pk+pl+pp+pq+pr+ps+pu+pw+q+r+rd+rr+s+s3+sb+sc+se+si+sk+sl+so+sp+st+tg+u+w+x.Lts-ci as ci-lts
 use Rattle.grammar.proofs.co.Reads as co
 use Rattle.grammar.proofs.co.Kinds as co-kinds
-use Rattle.grammar.proofs.+ai+bb+bi+bl+bo+bs+bw+by+ca+cd+ch+ci+co+cs+ea+eb+eg+ei+el+en+er+ex+fi+fo+ic+ii+im+is+it+lc+li+lp+ma+mc+ml+ne+oa+ob+oc+of+oj+on+oo+ot+ou+pa+pg+pj+pk+pl+pp+pq+pr+ps+pu+pw+px+ra+rd+rr+s2+s3+sb+sc+se+si+sk+sl+so+sp+st+tg+tl+wh+xl.Lts-co as co-lts
-use Rattle.grammar.proofs.cs.Reads as cs
-use Rattle.grammar.proofs.cs.Kinds as cs-kinds
-use Rattle.grammar.proofs.+ai+bb+bi+bl+bo+bs+bw+by+ca+cd+ch+ci+co+cs+ea+eb+eg+ei+el+en+er+ex+fi+fo+ic+ii+im+is+it+lc+li+lp+ma+mc+ml+ne+oa+ob+oc+of+oj+on+oo+ot+ou+pa+pg+pj+pk+pl+pp+pq+pr+ps+pu+pw+px+ra+rd+rr+s2+s3+sb+sc+se+si+sk+sl+so+sp+st+tg+tl+wh+xl.Lts-cs as cs-lts
-use Rattle.grammar.proofs.ea.Reads as ea
-use Rattle.grammar.proofs.ea.Kinds as ea-kinds
-use Rattle.grammar.proofs.+ai+bb+bi+bl+bo+bs+bw+by+ca+cd+ch+ci+co+cs+ea+eb+eg+ei+el+en+er+ex+fi+fo+ic+ii+im+is+it+lc+li+lp+ma+mc+ml+ne+oa+ob+oc+of+oj+on+oo+ot+ou+pa+pg+pj+pk+pl+pp+pq+pr+ps+pu+pw+px+ra+rd+rr+s2+s3+sb+sc+se+si+sk+sl+so+sp+st+tg+tl+wh+xl.Lts-ea as ea-lts
+use Rattle.grammar.proofs.+a+b+bi+bl+bo+bs+bw+by+ca+cd+ch+ci+co+d+e+eb+eg+ei+el+en+er+ex+f+fo+h+i+im+is+it+l+li+lp+ma+mc+ml+n+o+ob+oc+of+oj+on+oo+ot+ou+p+pg+pj+pk+pl+pp+pq+pr+ps+pu+pw+q+r+rd+rr+s+s3+sb+sc+se+si+sk+sl+so+sp+st+tg+u+w+x.Lts-co as co-lts
+use Rattle.grammar.proofs.d.Reads as d
+use Rattle.grammar.proofs.d.Kinds as d-kinds
+use Rattle.grammar.proofs.+a+b+bi+bl+bo+bs+bw+by+ca+cd+ch+ci+co+d+e+eb+eg+ei+el+en+er+ex+f+fo+h+i+im+is+it+l+li+lp+ma+mc+ml+n+o+ob+oc+of+oj+on+oo+ot+ou+p+pg+pj+pk+pl+pp+pq+pr+ps+pu+pw+q+r+rd+rr+s+s3+sb+sc+se+si+sk+sl+so+sp+st+tg+u+w+x.Lts-d as d-lts
+use Rattle.grammar.proofs.e.Reads as e
+use Rattle.grammar.proofs.e.Kinds as e-kinds
+use Rattle.grammar.proofs.+a+b+bi+bl+bo+bs+bw+by+ca+cd+ch+ci+co+d+e+eb+eg+ei+el+en+er+ex+f+fo+h+i+im+is+it+l+li+lp+ma+mc+ml+n+o+ob+oc+of+oj+on+oo+ot+ou+p+pg+pj+pk+pl+pp+pq+pr+ps+pu+pw+q+r+rd+rr+s+s3+sb+sc+se+si+sk+sl+so+sp+st+tg+u+w+x.Lts-e as e-lts
 use Rattle.grammar.proofs.eb.Reads as eb
 use Rattle.grammar.proofs.eb.Kinds as eb-kinds
-use Rattle.grammar.proofs.+ai+bb+bi+bl+bo+bs+bw+by+ca+cd+ch+ci+co+cs+ea+eb+eg+ei+el+en+er+ex+fi+fo+ic+ii+im+is+it+lc+li+lp+ma+mc+ml+ne+oa+ob+oc+of+oj+on+oo+ot+ou+pa+pg+pj+pk+pl+pp+pq+pr+ps+pu+pw+px+ra+rd+rr+s2+s3+sb+sc+se+si+sk+sl+so+sp+st+tg+tl+wh+xl.Lts-eb as eb-lts
+use Rattle.grammar.proofs.+a+b+bi+bl+bo+bs+bw+by+ca+cd+ch+ci+co+d+e+eb+eg+ei+el+en+er+ex+f+fo+h+i+im+is+it+l+li+lp+ma+mc+ml+n+o+ob+oc+of+oj+on+oo+ot+ou+p+pg+pj+pk+pl+pp+pq+pr+ps+pu+pw+q+r+rd+rr+s+s3+sb+sc+se+si+sk+sl+so+sp+st+tg+u+w+x.Lts-eb as eb-lts
 use Rattle.grammar.proofs.eg.Reads as eg
 use Rattle.grammar.proofs.eg.Kinds as eg-kinds
-use Rattle.grammar.proofs.+ai+bb+bi+bl+bo+bs+bw+by+ca+cd+ch+ci+co+cs+ea+eb+eg+ei+el+en+er+ex+fi+fo+ic+ii+im+is+it+lc+li+lp+ma+mc+ml+ne+oa+ob+oc+of+oj+on+oo+ot+ou+pa+pg+pj+pk+pl+pp+pq+pr+ps+pu+pw+px+ra+rd+rr+s2+s3+sb+sc+se+si+sk+sl+so+sp+st+tg+tl+wh+xl.Lts-eg as eg-lts
+use Rattle.grammar.proofs.+a+b+bi+bl+bo+bs+bw+by+ca+cd+ch+ci+co+d+e+eb+eg+ei+el+en+er+ex+f+fo+h+i+im+is+it+l+li+lp+ma+mc+ml+n+o+ob+oc+of+oj+on+oo+ot+ou+p+pg+pj+pk+pl+pp+pq+pr+ps+pu+pw+q+r+rd+rr+s+s3+sb+sc+se+si+sk+sl+so+sp+st+tg+u+w+x.Lts-eg as eg-lts
 use Rattle.grammar.proofs.ei.Reads as ei
 use Rattle.grammar.proofs.ei.Kinds as ei-kinds
-use Rattle.grammar.proofs.+ai+bb+bi+bl+bo+bs+bw+by+ca+cd+ch+ci+co+cs+ea+eb+eg+ei+el+en+er+ex+fi+fo+ic+ii+im+is+it+lc+li+lp+ma+mc+ml+ne+oa+ob+oc+of+oj+on+oo+ot+ou+pa+pg+pj+pk+pl+pp+pq+pr+ps+pu+pw+px+ra+rd+rr+s2+s3+sb+sc+se+si+sk+sl+so+sp+st+tg+tl+wh+xl.Lts-ei as ei-lts
+use Rattle.grammar.proofs.+a+b+bi+bl+bo+bs+bw+by+ca+cd+ch+ci+co+d+e+eb+eg+ei+el+en+er+ex+f+fo+h+i+im+is+it+l+li+lp+ma+mc+ml+n+o+ob+oc+of+oj+on+oo+ot+ou+p+pg+pj+pk+pl+pp+pq+pr+ps+pu+pw+q+r+rd+rr+s+s3+sb+sc+se+si+sk+sl+so+sp+st+tg+u+w+x.Lts-ei as ei-lts
 use Rattle.grammar.proofs.el.Reads as el
 use Rattle.grammar.proofs.el.Kinds as el-kinds
-use Rattle.grammar.proofs.+ai+bb+bi+bl+bo+bs+bw+by+ca+cd+ch+ci+co+cs+ea+eb+eg+ei+el+en+er+ex+fi+fo+ic+ii+im+is+it+lc+li+lp+ma+mc+ml+ne+oa+ob+oc+of+oj+on+oo+ot+ou+pa+pg+pj+pk+pl+pp+pq+pr+ps+pu+pw+px+ra+rd+rr+s2+s3+sb+sc+se+si+sk+sl+so+sp+st+tg+tl+wh+xl.Lts-el as el-lts
+use Rattle.grammar.proofs.+a+b+bi+bl+bo+bs+bw+by+ca+cd+ch+ci+co+d+e+eb+eg+ei+el+en+er+ex+f+fo+h+i+im+is+it+l+li+lp+ma+mc+ml+n+o+ob+oc+of+oj+on+oo+ot+ou+p+pg+pj+pk+pl+pp+pq+pr+ps+pu+pw+q+r+rd+rr+s+s3+sb+sc+se+si+sk+sl+so+sp+st+tg+u+w+x.Lts-el as el-lts
 use Rattle.grammar.proofs.en.Reads as en
 use Rattle.grammar.proofs.en.Kinds as en-kinds
-use Rattle.grammar.proofs.+ai+bb+bi+bl+bo+bs+bw+by+ca+cd+ch+ci+co+cs+ea+eb+eg+ei+el+en+er+ex+fi+fo+ic+ii+im+is+it+lc+li+lp+ma+mc+ml+ne+oa+ob+oc+of+oj+on+oo+ot+ou+pa+pg+pj+pk+pl+pp+pq+pr+ps+pu+pw+px+ra+rd+rr+s2+s3+sb+sc+se+si+sk+sl+so+sp+st+tg+tl+wh+xl.Lts-en as en-lts
+use Rattle.grammar.proofs.+a+b+bi+bl+bo+bs+bw+by+ca+cd+ch+ci+co+d+e+eb+eg+ei+el+en+er+ex+f+fo+h+i+im+is+it+l+li+lp+ma+mc+ml+n+o+ob+oc+of+oj+on+oo+ot+ou+p+pg+pj+pk+pl+pp+pq+pr+ps+pu+pw+q+r+rd+rr+s+s3+sb+sc+se+si+sk+sl+so+sp+st+tg+u+w+x.Lts-en as en-lts
 use Rattle.grammar.proofs.er.Reads as er
 use Rattle.grammar.proofs.er.Kinds as er-kinds
-use Rattle.grammar.proofs.+ai+bb+bi+bl+bo+bs+bw+by+ca+cd+ch+ci+co+cs+ea+eb+eg+ei+el+en+er+ex+fi+fo+ic+ii+im+is+it+lc+li+lp+ma+mc+ml+ne+oa+ob+oc+of+oj+on+oo+ot+ou+pa+pg+pj+pk+pl+pp+pq+pr+ps+pu+pw+px+ra+rd+rr+s2+s3+sb+sc+se+si+sk+sl+so+sp+st+tg+tl+wh+xl.Lts-er as er-lts
+use Rattle.grammar.proofs.+a+b+bi+bl+bo+bs+bw+by+ca+cd+ch+ci+co+d+e+eb+eg+ei+el+en+er+ex+f+fo+h+i+im+is+it+l+li+lp+ma+mc+ml+n+o+ob+oc+of+oj+on+oo+ot+ou+p+pg+pj+pk+pl+pp+pq+pr+ps+pu+pw+q+r+rd+rr+s+s3+sb+sc+se+si+sk+sl+so+sp+st+tg+u+w+x.Lts-er as er-lts
 use Rattle.grammar.proofs.ex.Reads as ex
 use Rattle.grammar.proofs.ex.Kinds as ex-kinds
-use Rattle.grammar.proofs.+ai+bb+bi+bl+bo+bs+bw+by+ca+cd+ch+ci+co+cs+ea+eb+eg+ei+el+en+er+ex+fi+fo+ic+ii+im+is+it+lc+li+lp+ma+mc+ml+ne+oa+ob+oc+of+oj+on+oo+ot+ou+pa+pg+pj+pk+pl+pp+pq+pr+ps+pu+pw+px+ra+rd+rr+s2+s3+sb+sc+se+si+sk+sl+so+sp+st+tg+tl+wh+xl.Lts-ex as ex-lts
-use Rattle.grammar.proofs.fi.Reads as fi
-use Rattle.grammar.proofs.fi.Kinds as fi-kinds
-use Rattle.grammar.proofs.+ai+bb+bi+bl+bo+bs+bw+by+ca+cd+ch+ci+co+cs+ea+eb+eg+ei+el+en+er+ex+fi+fo+ic+ii+im+is+it+lc+li+lp+ma+mc+ml+ne+oa+ob+oc+of+oj+on+oo+ot+ou+pa+pg+pj+pk+pl+pp+pq+pr+ps+pu+pw+px+ra+rd+rr+s2+s3+sb+sc+se+si+sk+sl+so+sp+st+tg+tl+wh+xl.Lts-fi as fi-lts
+use Rattle.grammar.proofs.+a+b+bi+bl+bo+bs+bw+by+ca+cd+ch+ci+co+d+e+eb+eg+ei+el+en+er+ex+f+fo+h+i+im+is+it+l+li+lp+ma+mc+ml+n+o+ob+oc+of+oj+on+oo+ot+ou+p+pg+pj+pk+pl+pp+pq+pr+ps+pu+pw+q+r+rd+rr+s+s3+sb+sc+se+si+sk+sl+so+sp+st+tg+u+w+x.Lts-ex as ex-lts
+use Rattle.grammar.proofs.f.Reads as f
+use Rattle.grammar.proofs.f.Kinds as f-kinds
+use Rattle.grammar.proofs.+a+b+bi+bl+bo+bs+bw+by+ca+cd+ch+ci+co+d+e+eb+eg+ei+el+en+er+ex+f+fo+h+i+im+is+it+l+li+lp+ma+mc+ml+n+o+ob+oc+of+oj+on+oo+ot+ou+p+pg+pj+pk+pl+pp+pq+pr+ps+pu+pw+q+r+rd+rr+s+s3+sb+sc+se+si+sk+sl+so+sp+st+tg+u+w+x.Lts-f as f-lts
 use Rattle.grammar.proofs.fo.Reads as fo
 use Rattle.grammar.proofs.fo.Kinds as fo-kinds
-use Rattle.grammar.proofs.+ai+bb+bi+bl+bo+bs+bw+by+ca+cd+ch+ci+co+cs+ea+eb+eg+ei+el+en+er+ex+fi+fo+ic+ii+im+is+it+lc+li+lp+ma+mc+ml+ne+oa+ob+oc+of+oj+on+oo+ot+ou+pa+pg+pj+pk+pl+pp+pq+pr+ps+pu+pw+px+ra+rd+rr+s2+s3+sb+sc+se+si+sk+sl+so+sp+st+tg+tl+wh+xl.Lts-fo as fo-lts
-use Rattle.grammar.proofs.ic.Reads as ic
-use Rattle.grammar.proofs.ic.Kinds as ic-kinds
-use Rattle.grammar.proofs.+ai+bb+bi+bl+bo+bs+bw+by+ca+cd+ch+ci+co+cs+ea+eb+eg+ei+el+en+er+ex+fi+fo+ic+ii+im+is+it+lc+li+lp+ma+mc+ml+ne+oa+ob+oc+of+oj+on+oo+ot+ou+pa+pg+pj+pk+pl+pp+pq+pr+ps+pu+pw+px+ra+rd+rr+s2+s3+sb+sc+se+si+sk+sl+so+sp+st+tg+tl+wh+xl.Lts-ic as ic-lts
-use Rattle.grammar.proofs.ii.Reads as ii
-use Rattle.grammar.proofs.ii.Kinds as ii-kinds
-use Rattle.grammar.proofs.+ai+bb+bi+bl+bo+bs+bw+by+ca+cd+ch+ci+co+cs+ea+eb+eg+ei+el+en+er+ex+fi+fo+ic+ii+im+is+it+lc+li+lp+ma+mc+ml+ne+oa+ob+oc+of+oj+on+oo+ot+ou+pa+pg+pj+pk+pl+pp+pq+pr+ps+pu+pw+px+ra+rd+rr+s2+s3+sb+sc+se+si+sk+sl+so+sp+st+tg+tl+wh+xl.Lts-ii as ii-lts
+use Rattle.grammar.proofs.+a+b+bi+bl+bo+bs+bw+by+ca+cd+ch+ci+co+d+e+eb+eg+ei+el+en+er+ex+f+fo+h+i+im+is+it+l+li+lp+ma+mc+ml+n+o+ob+oc+of+oj+on+oo+ot+ou+p+pg+pj+pk+pl+pp+pq+pr+ps+pu+pw+q+r+rd+rr+s+s3+sb+sc+se+si+sk+sl+so+sp+st+tg+u+w+x.Lts-fo as fo-lts
+use Rattle.grammar.proofs.h.Reads as h
+use Rattle.grammar.proofs.h.Kinds as h-kinds
+use Rattle.grammar.proofs.+a+b+bi+bl+bo+bs+bw+by+ca+cd+ch+ci+co+d+e+eb+eg+ei+el+en+er+ex+f+fo+h+i+im+is+it+l+li+lp+ma+mc+ml+n+o+ob+oc+of+oj+on+oo+ot+ou+p+pg+pj+pk+pl+pp+pq+pr+ps+pu+pw+q+r+rd+rr+s+s3+sb+sc+se+si+sk+sl+so+sp+st+tg+u+w+x.Lts-h as h-lts
+use Rattle.grammar.proofs.i.Reads as i
+use Rattle.grammar.proofs.i.Kinds as i-kinds
+use Rattle.grammar.proofs.+a+b+bi+bl+bo+bs+bw+by+ca+cd+ch+ci+co+d+e+eb+eg+ei+el+en+er+ex+f+fo+h+i+im+is+it+l+li+lp+ma+mc+ml+n+o+ob+oc+of+oj+on+oo+ot+ou+p+pg+pj+pk+pl+pp+pq+pr+ps+pu+pw+q+r+rd+rr+s+s3+sb+sc+se+si+sk+sl+so+sp+st+tg+u+w+x.Lts-i as i-lts
 use Rattle.grammar.proofs.im.Reads as im
 use Rattle.grammar.proofs.im.Kinds as im-kinds
-use Rattle.grammar.proofs.+ai+bb+bi+bl+bo+bs+bw+by+ca+cd+ch+ci+co+cs+ea+eb+eg+ei+el+en+er+ex+fi+fo+ic+ii+im+is+it+lc+li+lp+ma+mc+ml+ne+oa+ob+oc+of+oj+on+oo+ot+ou+pa+pg+pj+pk+pl+pp+pq+pr+ps+pu+pw+px+ra+rd+rr+s2+s3+sb+sc+se+si+sk+sl+so+sp+st+tg+tl+wh+xl.Lts-im as im-lts
+use Rattle.grammar.proofs.+a+b+bi+bl+bo+bs+bw+by+ca+cd+ch+ci+co+d+e+eb+eg+ei+el+en+er+ex+f+fo+h+i+im+is+it+l+li+lp+ma+mc+ml+n+o+ob+oc+of+oj+on+oo+ot+ou+p+pg+pj+pk+pl+pp+pq+pr+ps+pu+pw+q+r+rd+rr+s+s3+sb+sc+se+si+sk+sl+so+sp+st+tg+u+w+x.Lts-im as im-lts
 use Rattle.grammar.proofs.is.Reads as is′
 use Rattle.grammar.proofs.is.Kinds as is-kinds
-use Rattle.grammar.proofs.+ai+bb+bi+bl+bo+bs+bw+by+ca+cd+ch+ci+co+cs+ea+eb+eg+ei+el+en+er+ex+fi+fo+ic+ii+im+is+it+lc+li+lp+ma+mc+ml+ne+oa+ob+oc+of+oj+on+oo+ot+ou+pa+pg+pj+pk+pl+pp+pq+pr+ps+pu+pw+px+ra+rd+rr+s2+s3+sb+sc+se+si+sk+sl+so+sp+st+tg+tl+wh+xl.Lts-is as is-lts
+use Rattle.grammar.proofs.+a+b+bi+bl+bo+bs+bw+by+ca+cd+ch+ci+co+d+e+eb+eg+ei+el+en+er+ex+f+fo+h+i+im+is+it+l+li+lp+ma+mc+ml+n+o+ob+oc+of+oj+on+oo+ot+ou+p+pg+pj+pk+pl+pp+pq+pr+ps+pu+pw+q+r+rd+rr+s+s3+sb+sc+se+si+sk+sl+so+sp+st+tg+u+w+x.Lts-is as is-lts
 use Rattle.grammar.proofs.it.Reads as it
 use Rattle.grammar.proofs.it.Kinds as it-kinds
-use Rattle.grammar.proofs.+ai+bb+bi+bl+bo+bs+bw+by+ca+cd+ch+ci+co+cs+ea+eb+eg+ei+el+en+er+ex+fi+fo+ic+ii+im+is+it+lc+li+lp+ma+mc+ml+ne+oa+ob+oc+of+oj+on+oo+ot+ou+pa+pg+pj+pk+pl+pp+pq+pr+ps+pu+pw+px+ra+rd+rr+s2+s3+sb+sc+se+si+sk+sl+so+sp+st+tg+tl+wh+xl.Lts-it as it-lts
-use Rattle.grammar.proofs.lc.Reads as lc
-use Rattle.grammar.proofs.lc.Kinds as lc-kinds
-use Rattle.grammar.proofs.+ai+bb+bi+bl+bo+bs+bw+by+ca+cd+ch+ci+co+cs+ea+eb+eg+ei+el+en+er+ex+fi+fo+ic+ii+im+is+it+lc+li+lp+ma+mc+ml+ne+oa+ob+oc+of+oj+on+oo+ot+ou+pa+pg+pj+pk+pl+pp+pq+pr+ps+pu+pw+px+ra+rd+rr+s2+s3+sb+sc+se+si+sk+sl+so+sp+st+tg+tl+wh+xl.Lts-lc as lc-lts
+use Rattle.grammar.proofs.+a+b+bi+bl+bo+bs+bw+by+ca+cd+ch+ci+co+d+e+eb+eg+ei+el+en+er+ex+f+fo+h+i+im+is+it+l+li+lp+ma+mc+ml+n+o+ob+oc+of+oj+on+oo+ot+ou+p+pg+pj+pk+pl+pp+pq+pr+ps+pu+pw+q+r+rd+rr+s+s3+sb+sc+se+si+sk+sl+so+sp+st+tg+u+w+x.Lts-it as it-lts
+use Rattle.grammar.proofs.l.Reads as l
+use Rattle.grammar.proofs.l.Kinds as l-kinds
+use Rattle.grammar.proofs.+a+b+bi+bl+bo+bs+bw+by+ca+cd+ch+ci+co+d+e+eb+eg+ei+el+en+er+ex+f+fo+h+i+im+is+it+l+li+lp+ma+mc+ml+n+o+ob+oc+of+oj+on+oo+ot+ou+p+pg+pj+pk+pl+pp+pq+pr+ps+pu+pw+q+r+rd+rr+s+s3+sb+sc+se+si+sk+sl+so+sp+st+tg+u+w+x.Lts-l as l-lts
 use Rattle.grammar.proofs.li.Reads as li
 use Rattle.grammar.proofs.li.Kinds as li-kinds
-use Rattle.grammar.proofs.+ai+bb+bi+bl+bo+bs+bw+by+ca+cd+ch+ci+co+cs+ea+eb+eg+ei+el+en+er+ex+fi+fo+ic+ii+im+is+it+lc+li+lp+ma+mc+ml+ne+oa+ob+oc+of+oj+on+oo+ot+ou+pa+pg+pj+pk+pl+pp+pq+pr+ps+pu+pw+px+ra+rd+rr+s2+s3+sb+sc+se+si+sk+sl+so+sp+st+tg+tl+wh+xl.Lts-li as li-lts
+use Rattle.grammar.proofs.+a+b+bi+bl+bo+bs+bw+by+ca+cd+ch+ci+co+d+e+eb+eg+ei+el+en+er+ex+f+fo+h+i+im+is+it+l+li+lp+ma+mc+ml+n+o+ob+oc+of+oj+on+oo+ot+ou+p+pg+pj+pk+pl+pp+pq+pr+ps+pu+pw+q+r+rd+rr+s+s3+sb+sc+se+si+sk+sl+so+sp+st+tg+u+w+x.Lts-li as li-lts
 use Rattle.grammar.proofs.lp.Reads as lp
 use Rattle.grammar.proofs.lp.Kinds as lp-kinds
-use Rattle.grammar.proofs.+ai+bb+bi+bl+bo+bs+bw+by+ca+cd+ch+ci+co+cs+ea+eb+eg+ei+el+en+er+ex+fi+fo+ic+ii+im+is+it+lc+li+lp+ma+mc+ml+ne+oa+ob+oc+of+oj+on+oo+ot+ou+pa+pg+pj+pk+pl+pp+pq+pr+ps+pu+pw+px+ra+rd+rr+s2+s3+sb+sc+se+si+sk+sl+so+sp+st+tg+tl+wh+xl.Lts-lp as lp-lts
+use Rattle.grammar.proofs.+a+b+bi+bl+bo+bs+bw+by+ca+cd+ch+ci+co+d+e+eb+eg+ei+el+en+er+ex+f+fo+h+i+im+is+it+l+li+lp+ma+mc+ml+n+o+ob+oc+of+oj+on+oo+ot+ou+p+pg+pj+pk+pl+pp+pq+pr+ps+pu+pw+q+r+rd+rr+s+s3+sb+sc+se+si+sk+sl+so+sp+st+tg+u+w+x.Lts-lp as lp-lts
 use Rattle.grammar.proofs.ma.Reads as ma
 use Rattle.grammar.proofs.ma.Kinds as ma-kinds
-use Rattle.grammar.proofs.+ai+bb+bi+bl+bo+bs+bw+by+ca+cd+ch+ci+co+cs+ea+eb+eg+ei+el+en+er+ex+fi+fo+ic+ii+im+is+it+lc+li+lp+ma+mc+ml+ne+oa+ob+oc+of+oj+on+oo+ot+ou+pa+pg+pj+pk+pl+pp+pq+pr+ps+pu+pw+px+ra+rd+rr+s2+s3+sb+sc+se+si+sk+sl+so+sp+st+tg+tl+wh+xl.Lts-ma as ma-lts
+use Rattle.grammar.proofs.+a+b+bi+bl+bo+bs+bw+by+ca+cd+ch+ci+co+d+e+eb+eg+ei+el+en+er+ex+f+fo+h+i+im+is+it+l+li+lp+ma+mc+ml+n+o+ob+oc+of+oj+on+oo+ot+ou+p+pg+pj+pk+pl+pp+pq+pr+ps+pu+pw+q+r+rd+rr+s+s3+sb+sc+se+si+sk+sl+so+sp+st+tg+u+w+x.Lts-ma as ma-lts
 use Rattle.grammar.proofs.mc.Reads as mc
 use Rattle.grammar.proofs.mc.Kinds as mc-kinds
-use Rattle.grammar.proofs.+ai+bb+bi+bl+bo+bs+bw+by+ca+cd+ch+ci+co+cs+ea+eb+eg+ei+el+en+er+ex+fi+fo+ic+ii+im+is+it+lc+li+lp+ma+mc+ml+ne+oa+ob+oc+of+oj+on+oo+ot+ou+pa+pg+pj+pk+pl+pp+pq+pr+ps+pu+pw+px+ra+rd+rr+s2+s3+sb+sc+se+si+sk+sl+so+sp+st+tg+tl+wh+xl.Lts-mc as mc-lts
+use Rattle.grammar.proofs.+a+b+bi+bl+bo+bs+bw+by+ca+cd+ch+ci+co+d+e+eb+eg+ei+el+en+er+ex+f+fo+h+i+im+is+it+l+li+lp+ma+mc+ml+n+o+ob+oc+of+oj+on+oo+ot+ou+p+pg+pj+pk+pl+pp+pq+pr+ps+pu+pw+q+r+rd+rr+s+s3+sb+sc+se+si+sk+sl+so+sp+st+tg+u+w+x.Lts-mc as mc-lts
 use Rattle.grammar.proofs.ml.Reads as ml
 use Rattle.grammar.proofs.ml.Kinds as ml-kinds
-use Rattle.grammar.proofs.+ai+bb+bi+bl+bo+bs+bw+by+ca+cd+ch+ci+co+cs+ea+eb+eg+ei+el+en+er+ex+fi+fo+ic+ii+im+is+it+lc+li+lp+ma+mc+ml+ne+oa+ob+oc+of+oj+on+oo+ot+ou+pa+pg+pj+pk+pl+pp+pq+pr+ps+pu+pw+px+ra+rd+rr+s2+s3+sb+sc+se+si+sk+sl+so+sp+st+tg+tl+wh+xl.Lts-ml as ml-lts
-use Rattle.grammar.proofs.ne.Reads as ne
-use Rattle.grammar.proofs.ne.Kinds as ne-kinds
-use Rattle.grammar.proofs.+ai+bb+bi+bl+bo+bs+bw+by+ca+cd+ch+ci+co+cs+ea+eb+eg+ei+el+en+er+ex+fi+fo+ic+ii+im+is+it+lc+li+lp+ma+mc+ml+ne+oa+ob+oc+of+oj+on+oo+ot+ou+pa+pg+pj+pk+pl+pp+pq+pr+ps+pu+pw+px+ra+rd+rr+s2+s3+sb+sc+se+si+sk+sl+so+sp+st+tg+tl+wh+xl.Lts-ne as ne-lts
-use Rattle.grammar.proofs.oa.Reads as oa
-use Rattle.grammar.proofs.oa.Kinds as oa-kinds
-use Rattle.grammar.proofs.+ai+bb+bi+bl+bo+bs+bw+by+ca+cd+ch+ci+co+cs+ea+eb+eg+ei+el+en+er+ex+fi+fo+ic+ii+im+is+it+lc+li+lp+ma+mc+ml+ne+oa+ob+oc+of+oj+on+oo+ot+ou+pa+pg+pj+pk+pl+pp+pq+pr+ps+pu+pw+px+ra+rd+rr+s2+s3+sb+sc+se+si+sk+sl+so+sp+st+tg+tl+wh+xl.Lts-oa as oa-lts
+use Rattle.grammar.proofs.+a+b+bi+bl+bo+bs+bw+by+ca+cd+ch+ci+co+d+e+eb+eg+ei+el+en+er+ex+f+fo+h+i+im+is+it+l+li+lp+ma+mc+ml+n+o+ob+oc+of+oj+on+oo+ot+ou+p+pg+pj+pk+pl+pp+pq+pr+ps+pu+pw+q+r+rd+rr+s+s3+sb+sc+se+si+sk+sl+so+sp+st+tg+u+w+x.Lts-ml as ml-lts
+use Rattle.grammar.proofs.n.Reads as n
+use Rattle.grammar.proofs.n.Kinds as n-kinds
+use Rattle.grammar.proofs.+a+b+bi+bl+bo+bs+bw+by+ca+cd+ch+ci+co+d+e+eb+eg+ei+el+en+er+ex+f+fo+h+i+im+is+it+l+li+lp+ma+mc+ml+n+o+ob+oc+of+oj+on+oo+ot+ou+p+pg+pj+pk+pl+pp+pq+pr+ps+pu+pw+q+r+rd+rr+s+s3+sb+sc+se+si+sk+sl+so+sp+st+tg+u+w+x.Lts-n as n-lts
+use Rattle.grammar.proofs.o.Reads as o
+use Rattle.grammar.proofs.o.Kinds as o-kinds
+use Rattle.grammar.proofs.+a+b+bi+bl+bo+bs+bw+by+ca+cd+ch+ci+co+d+e+eb+eg+ei+el+en+er+ex+f+fo+h+i+im+is+it+l+li+lp+ma+mc+ml+n+o+ob+oc+of+oj+on+oo+ot+ou+p+pg+pj+pk+pl+pp+pq+pr+ps+pu+pw+q+r+rd+rr+s+s3+sb+sc+se+si+sk+sl+so+sp+st+tg+u+w+x.Lts-o as o-lts
 use Rattle.grammar.proofs.ob.Reads as ob
 use Rattle.grammar.proofs.ob.Kinds as ob-kinds
-use Rattle.grammar.proofs.+ai+bb+bi+bl+bo+bs+bw+by+ca+cd+ch+ci+co+cs+ea+eb+eg+ei+el+en+er+ex+fi+fo+ic+ii+im+is+it+lc+li+lp+ma+mc+ml+ne+oa+ob+oc+of+oj+on+oo+ot+ou+pa+pg+pj+pk+pl+pp+pq+pr+ps+pu+pw+px+ra+rd+rr+s2+s3+sb+sc+se+si+sk+sl+so+sp+st+tg+tl+wh+xl.Lts-ob as ob-lts
+use Rattle.grammar.proofs.+a+b+bi+bl+bo+bs+bw+by+ca+cd+ch+ci+co+d+e+eb+eg+ei+el+en+er+ex+f+fo+h+i+im+is+it+l+li+lp+ma+mc+ml+n+o+ob+oc+of+oj+on+oo+ot+ou+p+pg+pj+pk+pl+pp+pq+pr+ps+pu+pw+q+r+rd+rr+s+s3+sb+sc+se+si+sk+sl+so+sp+st+tg+u+w+x.Lts-ob as ob-lts
 use Rattle.grammar.proofs.oc.Reads as oc
 use Rattle.grammar.proofs.oc.Kinds as oc-kinds
-use Rattle.grammar.proofs.+ai+bb+bi+bl+bo+bs+bw+by+ca+cd+ch+ci+co+cs+ea+eb+eg+ei+el+en+er+ex+fi+fo+ic+ii+im+is+it+lc+li+lp+ma+mc+ml+ne+oa+ob+oc+of+oj+on+oo+ot+ou+pa+pg+pj+pk+pl+pp+pq+pr+ps+pu+pw+px+ra+rd+rr+s2+s3+sb+sc+se+si+sk+sl+so+sp+st+tg+tl+wh+xl.Lts-oc as oc-lts
+use Rattle.grammar.proofs.+a+b+bi+bl+bo+bs+bw+by+ca+cd+ch+ci+co+d+e+eb+eg+ei+el+en+er+ex+f+fo+h+i+im+is+it+l+li+lp+ma+mc+ml+n+o+ob+oc+of+oj+on+oo+ot+ou+p+pg+pj+pk+pl+pp+pq+pr+ps+pu+pw+q+r+rd+rr+s+s3+sb+sc+se+si+sk+sl+so+sp+st+tg+u+w+x.Lts-oc as oc-lts
 use Rattle.grammar.proofs.of.Reads as of
 use Rattle.grammar.proofs.of.Kinds as of-kinds
-use Rattle.grammar.proofs.+ai+bb+bi+bl+bo+bs+bw+by+ca+cd+ch+ci+co+cs+ea+eb+eg+ei+el+en+er+ex+fi+fo+ic+ii+im+is+it+lc+li+lp+ma+mc+ml+ne+oa+ob+oc+of+oj+on+oo+ot+ou+pa+pg+pj+pk+pl+pp+pq+pr+ps+pu+pw+px+ra+rd+rr+s2+s3+sb+sc+se+si+sk+sl+so+sp+st+tg+tl+wh+xl.Lts-of as of-lts
+use Rattle.grammar.proofs.+a+b+bi+bl+bo+bs+bw+by+ca+cd+ch+ci+co+d+e+eb+eg+ei+el+en+er+ex+f+fo+h+i+im+is+it+l+li+lp+ma+mc+ml+n+o+ob+oc+of+oj+on+oo+ot+ou+p+pg+pj+pk+pl+pp+pq+pr+ps+pu+pw+q+r+rd+rr+s+s3+sb+sc+se+si+sk+sl+so+sp+st+tg+u+w+x.Lts-of as of-lts
 use Rattle.grammar.proofs.oj.Reads as oj
 use Rattle.grammar.proofs.oj.Kinds as oj-kinds
-use Rattle.grammar.proofs.+ai+bb+bi+bl+bo+bs+bw+by+ca+cd+ch+ci+co+cs+ea+eb+eg+ei+el+en+er+ex+fi+fo+ic+ii+im+is+it+lc+li+lp+ma+mc+ml+ne+oa+ob+oc+of+oj+on+oo+ot+ou+pa+pg+pj+pk+pl+pp+pq+pr+ps+pu+pw+px+ra+rd+rr+s2+s3+sb+sc+se+si+sk+sl+so+sp+st+tg+tl+wh+xl.Lts-oj as oj-lts
+use Rattle.grammar.proofs.+a+b+bi+bl+bo+bs+bw+by+ca+cd+ch+ci+co+d+e+eb+eg+ei+el+en+er+ex+f+fo+h+i+im+is+it+l+li+lp+ma+mc+ml+n+o+ob+oc+of+oj+on+oo+ot+ou+p+pg+pj+pk+pl+pp+pq+pr+ps+pu+pw+q+r+rd+rr+s+s3+sb+sc+se+si+sk+sl+so+sp+st+tg+u+w+x.Lts-oj as oj-lts
 use Rattle.grammar.proofs.on.Reads as on
 use Rattle.grammar.proofs.on.Kinds as on-kinds
-use Rattle.grammar.proofs.+ai+bb+bi+bl+bo+bs+bw+by+ca+cd+ch+ci+co+cs+ea+eb+eg+ei+el+en+er+ex+fi+fo+ic+ii+im+is+it+lc+li+lp+ma+mc+ml+ne+oa+ob+oc+of+oj+on+oo+ot+ou+pa+pg+pj+pk+pl+pp+pq+pr+ps+pu+pw+px+ra+rd+rr+s2+s3+sb+sc+se+si+sk+sl+so+sp+st+tg+tl+wh+xl.Lts-on as on-lts
+use Rattle.grammar.proofs.+a+b+bi+bl+bo+bs+bw+by+ca+cd+ch+ci+co+d+e+eb+eg+ei+el+en+er+ex+f+fo+h+i+im+is+it+l+li+lp+ma+mc+ml+n+o+ob+oc+of+oj+on+oo+ot+ou+p+pg+pj+pk+pl+pp+pq+pr+ps+pu+pw+q+r+rd+rr+s+s3+sb+sc+se+si+sk+sl+so+sp+st+tg+u+w+x.Lts-on as on-lts
 use Rattle.grammar.proofs.oo.Reads as oo
 use Rattle.grammar.proofs.oo.Kinds as oo-kinds
-use Rattle.grammar.proofs.+ai+bb+bi+bl+bo+bs+bw+by+ca+cd+ch+ci+co+cs+ea+eb+eg+ei+el+en+er+ex+fi+fo+ic+ii+im+is+it+lc+li+lp+ma+mc+ml+ne+oa+ob+oc+of+oj+on+oo+ot+ou+pa+pg+pj+pk+pl+pp+pq+pr+ps+pu+pw+px+ra+rd+rr+s2+s3+sb+sc+se+si+sk+sl+so+sp+st+tg+tl+wh+xl.Lts-oo as oo-lts
+use Rattle.grammar.proofs.+a+b+bi+bl+bo+bs+bw+by+ca+cd+ch+ci+co+d+e+eb+eg+ei+el+en+er+ex+f+fo+h+i+im+is+it+l+li+lp+ma+mc+ml+n+o+ob+oc+of+oj+on+oo+ot+ou+p+pg+pj+pk+pl+pp+pq+pr+ps+pu+pw+q+r+rd+rr+s+s3+sb+sc+se+si+sk+sl+so+sp+st+tg+u+w+x.Lts-oo as oo-lts
 use Rattle.grammar.proofs.ot.Reads as ot
 use Rattle.grammar.proofs.ot.Kinds as ot-kinds
-use Rattle.grammar.proofs.+ai+bb+bi+bl+bo+bs+bw+by+ca+cd+ch+ci+co+cs+ea+eb+eg+ei+el+en+er+ex+fi+fo+ic+ii+im+is+it+lc+li+lp+ma+mc+ml+ne+oa+ob+oc+of+oj+on+oo+ot+ou+pa+pg+pj+pk+pl+pp+pq+pr+ps+pu+pw+px+ra+rd+rr+s2+s3+sb+sc+se+si+sk+sl+so+sp+st+tg+tl+wh+xl.Lts-ot as ot-lts
+use Rattle.grammar.proofs.+a+b+bi+bl+bo+bs+bw+by+ca+cd+ch+ci+co+d+e+eb+eg+ei+el+en+er+ex+f+fo+h+i+im+is+it+l+li+lp+ma+mc+ml+n+o+ob+oc+of+oj+on+oo+ot+ou+p+pg+pj+pk+pl+pp+pq+pr+ps+pu+pw+q+r+rd+rr+s+s3+sb+sc+se+si+sk+sl+so+sp+st+tg+u+w+x.Lts-ot as ot-lts
 use Rattle.grammar.proofs.ou.Reads as ou
 use Rattle.grammar.proofs.ou.Kinds as ou-kinds
-use Rattle.grammar.proofs.+ai+bb+bi+bl+bo+bs+bw+by+ca+cd+ch+ci+co+cs+ea+eb+eg+ei+el+en+er+ex+fi+fo+ic+ii+im+is+it+lc+li+lp+ma+mc+ml+ne+oa+ob+oc+of+oj+on+oo+ot+ou+pa+pg+pj+pk+pl+pp+pq+pr+ps+pu+pw+px+ra+rd+rr+s2+s3+sb+sc+se+si+sk+sl+so+sp+st+tg+tl+wh+xl.Lts-ou as ou-lts
-use Rattle.grammar.proofs.pa.Reads as pa
-use Rattle.grammar.proofs.pa.Kinds as pa-kinds
-use Rattle.grammar.proofs.+ai+bb+bi+bl+bo+bs+bw+by+ca+cd+ch+ci+co+cs+ea+eb+eg+ei+el+en+er+ex+fi+fo+ic+ii+im+is+it+lc+li+lp+ma+mc+ml+ne+oa+ob+oc+of+oj+on+oo+ot+ou+pa+pg+pj+pk+pl+pp+pq+pr+ps+pu+pw+px+ra+rd+rr+s2+s3+sb+sc+se+si+sk+sl+so+sp+st+tg+tl+wh+xl.Lts-pa as pa-lts
+use Rattle.grammar.proofs.+a+b+bi+bl+bo+bs+bw+by+ca+cd+ch+ci+co+d+e+eb+eg+ei+el+en+er+ex+f+fo+h+i+im+is+it+l+li+lp+ma+mc+ml+n+o+ob+oc+of+oj+on+oo+ot+ou+p+pg+pj+pk+pl+pp+pq+pr+ps+pu+pw+q+r+rd+rr+s+s3+sb+sc+se+si+sk+sl+so+sp+st+tg+u+w+x.Lts-ou as ou-lts
+use Rattle.grammar.proofs.p.Reads as p
+use Rattle.grammar.proofs.p.Kinds as p-kinds
+use Rattle.grammar.proofs.+a+b+bi+bl+bo+bs+bw+by+ca+cd+ch+ci+co+d+e+eb+eg+ei+el+en+er+ex+f+fo+h+i+im+is+it+l+li+lp+ma+mc+ml+n+o+ob+oc+of+oj+on+oo+ot+ou+p+pg+pj+pk+pl+pp+pq+pr+ps+pu+pw+q+r+rd+rr+s+s3+sb+sc+se+si+sk+sl+so+sp+st+tg+u+w+x.Lts-p as p-lts
 use Rattle.grammar.proofs.pg.Reads as pg
 use Rattle.grammar.proofs.pg.Kinds as pg-kinds
-use Rattle.grammar.proofs.+ai+bb+bi+bl+bo+bs+bw+by+ca+cd+ch+ci+co+cs+ea+eb+eg+ei+el+en+er+ex+fi+fo+ic+ii+im+is+it+lc+li+lp+ma+mc+ml+ne+oa+ob+oc+of+oj+on+oo+ot+ou+pa+pg+pj+pk+pl+pp+pq+pr+ps+pu+pw+px+ra+rd+rr+s2+s3+sb+sc+se+si+sk+sl+so+sp+st+tg+tl+wh+xl.Lts-pg as pg-lts
+use Rattle.grammar.proofs.+a+b+bi+bl+bo+bs+bw+by+ca+cd+ch+ci+co+d+e+eb+eg+ei+el+en+er+ex+f+fo+h+i+im+is+it+l+li+lp+ma+mc+ml+n+o+ob+oc+of+oj+on+oo+ot+ou+p+pg+pj+pk+pl+pp+pq+pr+ps+pu+pw+q+r+rd+rr+s+s3+sb+sc+se+si+sk+sl+so+sp+st+tg+u+w+x.Lts-pg as pg-lts
 use Rattle.grammar.proofs.pj.Reads as pj
 use Rattle.grammar.proofs.pj.Kinds as pj-kinds
-use Rattle.grammar.proofs.+ai+bb+bi+bl+bo+bs+bw+by+ca+cd+ch+ci+co+cs+ea+eb+eg+ei+el+en+er+ex+fi+fo+ic+ii+im+is+it+lc+li+lp+ma+mc+ml+ne+oa+ob+oc+of+oj+on+oo+ot+ou+pa+pg+pj+pk+pl+pp+pq+pr+ps+pu+pw+px+ra+rd+rr+s2+s3+sb+sc+se+si+sk+sl+so+sp+st+tg+tl+wh+xl.Lts-pj as pj-lts
+use Rattle.grammar.proofs.+a+b+bi+bl+bo+bs+bw+by+ca+cd+ch+ci+co+d+e+eb+eg+ei+el+en+er+ex+f+fo+h+i+im+is+it+l+li+lp+ma+mc+ml+n+o+ob+oc+of+oj+on+oo+ot+ou+p+pg+pj+pk+pl+pp+pq+pr+ps+pu+pw+q+r+rd+rr+s+s3+sb+sc+se+si+sk+sl+so+sp+st+tg+u+w+x.Lts-pj as pj-lts
 use Rattle.grammar.proofs.pk.Reads as pk
 use Rattle.grammar.proofs.pk.Kinds as pk-kinds
-use Rattle.grammar.proofs.+ai+bb+bi+bl+bo+bs+bw+by+ca+cd+ch+ci+co+cs+ea+eb+eg+ei+el+en+er+ex+fi+fo+ic+ii+im+is+it+lc+li+lp+ma+mc+ml+ne+oa+ob+oc+of+oj+on+oo+ot+ou+pa+pg+pj+pk+pl+pp+pq+pr+ps+pu+pw+px+ra+rd+rr+s2+s3+sb+sc+se+si+sk+sl+so+sp+st+tg+tl+wh+xl.Lts-pk as pk-lts
+use Rattle.grammar.proofs.+a+b+bi+bl+bo+bs+bw+by+ca+cd+ch+ci+co+d+e+eb+eg+ei+el+en+er+ex+f+fo+h+i+im+is+it+l+li+lp+ma+mc+ml+n+o+ob+oc+of+oj+on+oo+ot+ou+p+pg+pj+pk+pl+pp+pq+pr+ps+pu+pw+q+r+rd+rr+s+s3+sb+sc+se+si+sk+sl+so+sp+st+tg+u+w+x.Lts-pk as pk-lts
 use Rattle.grammar.proofs.pl.Reads as pl
 use Rattle.grammar.proofs.pl.Kinds as pl-kinds
-use Rattle.grammar.proofs.+ai+bb+bi+bl+bo+bs+bw+by+ca+cd+ch+ci+co+cs+ea+eb+eg+ei+el+en+er+ex+fi+fo+ic+ii+im+is+it+lc+li+lp+ma+mc+ml+ne+oa+ob+oc+of+oj+on+oo+ot+ou+pa+pg+pj+pk+pl+pp+pq+pr+ps+pu+pw+px+ra+rd+rr+s2+s3+sb+sc+se+si+sk+sl+so+sp+st+tg+tl+wh+xl.Lts-pl as pl-lts
+use Rattle.grammar.proofs.+a+b+bi+bl+bo+bs+bw+by+ca+cd+ch+ci+co+d+e+eb+eg+ei+el+en+er+ex+f+fo+h+i+im+is+it+l+li+lp+ma+mc+ml+n+o+ob+oc+of+oj+on+oo+ot+ou+p+pg+pj+pk+pl+pp+pq+pr+ps+pu+pw+q+r+rd+rr+s+s3+sb+sc+se+si+sk+sl+so+sp+st+tg+u+w+x.Lts-pl as pl-lts
 use Rattle.grammar.proofs.pp.Reads as pp
 use Rattle.grammar.proofs.pp.Kinds as pp-kinds
-use Rattle.grammar.proofs.+ai+bb+bi+bl+bo+bs+bw+by+ca+cd+ch+ci+co+cs+ea+eb+eg+ei+el+en+er+ex+fi+fo+ic+ii+im+is+it+lc+li+lp+ma+mc+ml+ne+oa+ob+oc+of+oj+on+oo+ot+ou+pa+pg+pj+pk+pl+pp+pq+pr+ps+pu+pw+px+ra+rd+rr+s2+s3+sb+sc+se+si+sk+sl+so+sp+st+tg+tl+wh+xl.Lts-pp as pp-lts
+use Rattle.grammar.proofs.+a+b+bi+bl+bo+bs+bw+by+ca+cd+ch+ci+co+d+e+eb+eg+ei+el+en+er+ex+f+fo+h+i+im+is+it+l+li+lp+ma+mc+ml+n+o+ob+oc+of+oj+on+oo+ot+ou+p+pg+pj+pk+pl+pp+pq+pr+ps+pu+pw+q+r+rd+rr+s+s3+sb+sc+se+si+sk+sl+so+sp+st+tg+u+w+x.Lts-pp as pp-lts
 use Rattle.grammar.proofs.pq.Reads as pq
 use Rattle.grammar.proofs.pq.Kinds as pq-kinds
-use Rattle.grammar.proofs.+ai+bb+bi+bl+bo+bs+bw+by+ca+cd+ch+ci+co+cs+ea+eb+eg+ei+el+en+er+ex+fi+fo+ic+ii+im+is+it+lc+li+lp+ma+mc+ml+ne+oa+ob+oc+of+oj+on+oo+ot+ou+pa+pg+pj+pk+pl+pp+pq+pr+ps+pu+pw+px+ra+rd+rr+s2+s3+sb+sc+se+si+sk+sl+so+sp+st+tg+tl+wh+xl.Lts-pq as pq-lts
+use Rattle.grammar.proofs.+a+b+bi+bl+bo+bs+bw+by+ca+cd+ch+ci+co+d+e+eb+eg+ei+el+en+er+ex+f+fo+h+i+im+is+it+l+li+lp+ma+mc+ml+n+o+ob+oc+of+oj+on+oo+ot+ou+p+pg+pj+pk+pl+pp+pq+pr+ps+pu+pw+q+r+rd+rr+s+s3+sb+sc+se+si+sk+sl+so+sp+st+tg+u+w+x.Lts-pq as pq-lts
 use Rattle.grammar.proofs.pr.Reads as pr
 use Rattle.grammar.proofs.pr.Kinds as pr-kinds
-use Rattle.grammar.proofs.+ai+bb+bi+bl+bo+bs+bw+by+ca+cd+ch+ci+co+cs+ea+eb+eg+ei+el+en+er+ex+fi+fo+ic+ii+im+is+it+lc+li+lp+ma+mc+ml+ne+oa+ob+oc+of+oj+on+oo+ot+ou+pa+pg+pj+pk+pl+pp+pq+pr+ps+pu+pw+px+ra+rd+rr+s2+s3+sb+sc+se+si+sk+sl+so+sp+st+tg+tl+wh+xl.Lts-pr as pr-lts
+use Rattle.grammar.proofs.+a+b+bi+bl+bo+bs+bw+by+ca+cd+ch+ci+co+d+e+eb+eg+ei+el+en+er+ex+f+fo+h+i+im+is+it+l+li+lp+ma+mc+ml+n+o+ob+oc+of+oj+on+oo+ot+ou+p+pg+pj+pk+pl+pp+pq+pr+ps+pu+pw+q+r+rd+rr+s+s3+sb+sc+se+si+sk+sl+so+sp+st+tg+u+w+x.Lts-pr as pr-lts
 use Rattle.grammar.proofs.ps.Reads as ps
 use Rattle.grammar.proofs.ps.Kinds as ps-kinds
-use Rattle.grammar.proofs.+ai+bb+bi+bl+bo+bs+bw+by+ca+cd+ch+ci+co+cs+ea+eb+eg+ei+el+en+er+ex+fi+fo+ic+ii+im+is+it+lc+li+lp+ma+mc+ml+ne+oa+ob+oc+of+oj+on+oo+ot+ou+pa+pg+pj+pk+pl+pp+pq+pr+ps+pu+pw+px+ra+rd+rr+s2+s3+sb+sc+se+si+sk+sl+so+sp+st+tg+tl+wh+xl.Lts-ps as ps-lts
+use Rattle.grammar.proofs.+a+b+bi+bl+bo+bs+bw+by+ca+cd+ch+ci+co+d+e+eb+eg+ei+el+en+er+ex+f+fo+h+i+im+is+it+l+li+lp+ma+mc+ml+n+o+ob+oc+of+oj+on+oo+ot+ou+p+pg+pj+pk+pl+pp+pq+pr+ps+pu+pw+q+r+rd+rr+s+s3+sb+sc+se+si+sk+sl+so+sp+st+tg+u+w+x.Lts-ps as ps-lts
 use Rattle.grammar.proofs.pu.Reads as pu
 use Rattle.grammar.proofs.pu.Kinds as pu-kinds
-use Rattle.grammar.proofs.+ai+bb+bi+bl+bo+bs+bw+by+ca+cd+ch+ci+co+cs+ea+eb+eg+ei+el+en+er+ex+fi+fo+ic+ii+im+is+it+lc+li+lp+ma+mc+ml+ne+oa+ob+oc+of+oj+on+oo+ot+ou+pa+pg+pj+pk+pl+pp+pq+pr+ps+pu+pw+px+ra+rd+rr+s2+s3+sb+sc+se+si+sk+sl+so+sp+st+tg+tl+wh+xl.Lts-pu as pu-lts
+use Rattle.grammar.proofs.+a+b+bi+bl+bo+bs+bw+by+ca+cd+ch+ci+co+d+e+eb+eg+ei+el+en+er+ex+f+fo+h+i+im+is+it+l+li+lp+ma+mc+ml+n+o+ob+oc+of+oj+on+oo+ot+ou+p+pg+pj+pk+pl+pp+pq+pr+ps+pu+pw+q+r+rd+rr+s+s3+sb+sc+se+si+sk+sl+so+sp+st+tg+u+w+x.Lts-pu as pu-lts
 use Rattle.grammar.proofs.pw.Reads as pw
 use Rattle.grammar.proofs.pw.Kinds as pw-kinds
-use Rattle.grammar.proofs.+ai+bb+bi+bl+bo+bs+bw+by+ca+cd+ch+ci+co+cs+ea+eb+eg+ei+el+en+er+ex+fi+fo+ic+ii+im+is+it+lc+li+lp+ma+mc+ml+ne+oa+ob+oc+of+oj+on+oo+ot+ou+pa+pg+pj+pk+pl+pp+pq+pr+ps+pu+pw+px+ra+rd+rr+s2+s3+sb+sc+se+si+sk+sl+so+sp+st+tg+tl+wh+xl.Lts-pw as pw-lts
-use Rattle.grammar.proofs.px.Reads as px
-use Rattle.grammar.proofs.px.Kinds as px-kinds
-use Rattle.grammar.proofs.+ai+bb+bi+bl+bo+bs+bw+by+ca+cd+ch+ci+co+cs+ea+eb+eg+ei+el+en+er+ex+fi+fo+ic+ii+im+is+it+lc+li+lp+ma+mc+ml+ne+oa+ob+oc+of+oj+on+oo+ot+ou+pa+pg+pj+pk+pl+pp+pq+pr+ps+pu+pw+px+ra+rd+rr+s2+s3+sb+sc+se+si+sk+sl+so+sp+st+tg+tl+wh+xl.Lts-px as px-lts
-use Rattle.grammar.proofs.ra.Reads as ra
-use Rattle.grammar.proofs.ra.Kinds as ra-kinds
-use Rattle.grammar.proofs.+ai+bb+bi+bl+bo+bs+bw+by+ca+cd+ch+ci+co+cs+ea+eb+eg+ei+el+en+er+ex+fi+fo+ic+ii+im+is+it+lc+li+lp+ma+mc+ml+ne+oa+ob+oc+of+oj+on+oo+ot+ou+pa+pg+pj+pk+pl+pp+pq+pr+ps+pu+pw+px+ra+rd+rr+s2+s3+sb+sc+se+si+sk+sl+so+sp+st+tg+tl+wh+xl.Lts-ra as ra-lts
+use Rattle.grammar.proofs.+a+b+bi+bl+bo+bs+bw+by+ca+cd+ch+ci+co+d+e+eb+eg+ei+el+en+er+ex+f+fo+h+i+im+is+it+l+li+lp+ma+mc+ml+n+o+ob+oc+of+oj+on+oo+ot+ou+p+pg+pj+pk+pl+pp+pq+pr+ps+pu+pw+q+r+rd+rr+s+s3+sb+sc+se+si+sk+sl+so+sp+st+tg+u+w+x.Lts-pw as pw-lts
+use Rattle.grammar.proofs.q.Reads as q
+use Rattle.grammar.proofs.q.Kinds as q-kinds
+use Rattle.grammar.proofs.+a+b+bi+bl+bo+bs+bw+by+ca+cd+ch+ci+co+d+e+eb+eg+ei+el+en+er+ex+f+fo+h+i+im+is+it+l+li+lp+ma+mc+ml+n+o+ob+oc+of+oj+on+oo+ot+ou+p+pg+pj+pk+pl+pp+pq+pr+ps+pu+pw+q+r+rd+rr+s+s3+sb+sc+se+si+sk+sl+so+sp+st+tg+u+w+x.Lts-q as q-lts
+use Rattle.grammar.proofs.r.Reads as r
+use Rattle.grammar.proofs.r.Kinds as r-kinds
+use Rattle.grammar.proofs.+a+b+bi+bl+bo+bs+bw+by+ca+cd+ch+ci+co+d+e+eb+eg+ei+el+en+er+ex+f+fo+h+i+im+is+it+l+li+lp+ma+mc+ml+n+o+ob+oc+of+oj+on+oo+ot+ou+p+pg+pj+pk+pl+pp+pq+pr+ps+pu+pw+q+r+rd+rr+s+s3+sb+sc+se+si+sk+sl+so+sp+st+tg+u+w+x.Lts-r as r-lts
 use Rattle.grammar.proofs.rd.Reads as rd
 use Rattle.grammar.proofs.rd.Kinds as rd-kinds
-use Rattle.grammar.proofs.+ai+bb+bi+bl+bo+bs+bw+by+ca+cd+ch+ci+co+cs+ea+eb+eg+ei+el+en+er+ex+fi+fo+ic+ii+im+is+it+lc+li+lp+ma+mc+ml+ne+oa+ob+oc+of+oj+on+oo+ot+ou+pa+pg+pj+pk+pl+pp+pq+pr+ps+pu+pw+px+ra+rd+rr+s2+s3+sb+sc+se+si+sk+sl+so+sp+st+tg+tl+wh+xl.Lts-rd as rd-lts
+use Rattle.grammar.proofs.+a+b+bi+bl+bo+bs+bw+by+ca+cd+ch+ci+co+d+e+eb+eg+ei+el+en+er+ex+f+fo+h+i+im+is+it+l+li+lp+ma+mc+ml+n+o+ob+oc+of+oj+on+oo+ot+ou+p+pg+pj+pk+pl+pp+pq+pr+ps+pu+pw+q+r+rd+rr+s+s3+sb+sc+se+si+sk+sl+so+sp+st+tg+u+w+x.Lts-rd as rd-lts
 use Rattle.grammar.proofs.rr.Reads as rr
 use Rattle.grammar.proofs.rr.Kinds as rr-kinds
-use Rattle.grammar.proofs.+ai+bb+bi+bl+bo+bs+bw+by+ca+cd+ch+ci+co+cs+ea+eb+eg+ei+el+en+er+ex+fi+fo+ic+ii+im+is+it+lc+li+lp+ma+mc+ml+ne+oa+ob+oc+of+oj+on+oo+ot+ou+pa+pg+pj+pk+pl+pp+pq+pr+ps+pu+pw+px+ra+rd+rr+s2+s3+sb+sc+se+si+sk+sl+so+sp+st+tg+tl+wh+xl.Lts-rr as rr-lts
-use Rattle.grammar.proofs.s2.Reads as s2
-use Rattle.grammar.proofs.s2.Kinds as s2-kinds
-use Rattle.grammar.proofs.+ai+bb+bi+bl+bo+bs+bw+by+ca+cd+ch+ci+co+cs+ea+eb+eg+ei+el+en+er+ex+fi+fo+ic+ii+im+is+it+lc+li+lp+ma+mc+ml+ne+oa+ob+oc+of+oj+on+oo+ot+ou+pa+pg+pj+pk+pl+pp+pq+pr+ps+pu+pw+px+ra+rd+rr+s2+s3+sb+sc+se+si+sk+sl+so+sp+st+tg+tl+wh+xl.Lts-s2 as s2-lts
+use Rattle.grammar.proofs.+a+b+bi+bl+bo+bs+bw+by+ca+cd+ch+ci+co+d+e+eb+eg+ei+el+en+er+ex+f+fo+h+i+im+is+it+l+li+lp+ma+mc+ml+n+o+ob+oc+of+oj+on+oo+ot+ou+p+pg+pj+pk+pl+pp+pq+pr+ps+pu+pw+q+r+rd+rr+s+s3+sb+sc+se+si+sk+sl+so+sp+st+tg+u+w+x.Lts-rr as rr-lts
+use Rattle.grammar.proofs.s.Reads as s
+use Rattle.grammar.proofs.s.Kinds as s-kinds
+use Rattle.grammar.proofs.+a+b+bi+bl+bo+bs+bw+by+ca+cd+ch+ci+co+d+e+eb+eg+ei+el+en+er+ex+f+fo+h+i+im+is+it+l+li+lp+ma+mc+ml+n+o+ob+oc+of+oj+on+oo+ot+ou+p+pg+pj+pk+pl+pp+pq+pr+ps+pu+pw+q+r+rd+rr+s+s3+sb+sc+se+si+sk+sl+so+sp+st+tg+u+w+x.Lts-s as s-lts
 use Rattle.grammar.proofs.s3.Reads as s3
 use Rattle.grammar.proofs.s3.Kinds as s3-kinds
-use Rattle.grammar.proofs.+ai+bb+bi+bl+bo+bs+bw+by+ca+cd+ch+ci+co+cs+ea+eb+eg+ei+el+en+er+ex+fi+fo+ic+ii+im+is+it+lc+li+lp+ma+mc+ml+ne+oa+ob+oc+of+oj+on+oo+ot+ou+pa+pg+pj+pk+pl+pp+pq+pr+ps+pu+pw+px+ra+rd+rr+s2+s3+sb+sc+se+si+sk+sl+so+sp+st+tg+tl+wh+xl.Lts-s3 as s3-lts
+use Rattle.grammar.proofs.+a+b+bi+bl+bo+bs+bw+by+ca+cd+ch+ci+co+d+e+eb+eg+ei+el+en+er+ex+f+fo+h+i+im+is+it+l+li+lp+ma+mc+ml+n+o+ob+oc+of+oj+on+oo+ot+ou+p+pg+pj+pk+pl+pp+pq+pr+ps+pu+pw+q+r+rd+rr+s+s3+sb+sc+se+si+sk+sl+so+sp+st+tg+u+w+x.Lts-s3 as s3-lts
 use Rattle.grammar.proofs.sb.Reads as sb
 use Rattle.grammar.proofs.sb.Kinds as sb-kinds
-use Rattle.grammar.proofs.+ai+bb+bi+bl+bo+bs+bw+by+ca+cd+ch+ci+co+cs+ea+eb+eg+ei+el+en+er+ex+fi+fo+ic+ii+im+is+it+lc+li+lp+ma+mc+ml+ne+oa+ob+oc+of+oj+on+oo+ot+ou+pa+pg+pj+pk+pl+pp+pq+pr+ps+pu+pw+px+ra+rd+rr+s2+s3+sb+sc+se+si+sk+sl+so+sp+st+tg+tl+wh+xl.Lts-sb as sb-lts
+use Rattle.grammar.proofs.+a+b+bi+bl+bo+bs+bw+by+ca+cd+ch+ci+co+d+e+eb+eg+ei+el+en+er+ex+f+fo+h+i+im+is+it+l+li+lp+ma+mc+ml+n+o+ob+oc+of+oj+on+oo+ot+ou+p+pg+pj+pk+pl+pp+pq+pr+ps+pu+pw+q+r+rd+rr+s+s3+sb+sc+se+si+sk+sl+so+sp+st+tg+u+w+x.Lts-sb as sb-lts
 use Rattle.grammar.proofs.sc.Reads as sc
 use Rattle.grammar.proofs.sc.Kinds as sc-kinds
-use Rattle.grammar.proofs.+ai+bb+bi+bl+bo+bs+bw+by+ca+cd+ch+ci+co+cs+ea+eb+eg+ei+el+en+er+ex+fi+fo+ic+ii+im+is+it+lc+li+lp+ma+mc+ml+ne+oa+ob+oc+of+oj+on+oo+ot+ou+pa+pg+pj+pk+pl+pp+pq+pr+ps+pu+pw+px+ra+rd+rr+s2+s3+sb+sc+se+si+sk+sl+so+sp+st+tg+tl+wh+xl.Lts-sc as sc-lts
+use Rattle.grammar.proofs.+a+b+bi+bl+bo+bs+bw+by+ca+cd+ch+ci+co+d+e+eb+eg+ei+el+en+er+ex+f+fo+h+i+im+is+it+l+li+lp+ma+mc+ml+n+o+ob+oc+of+oj+on+oo+ot+ou+p+pg+pj+pk+pl+pp+pq+pr+ps+pu+pw+q+r+rd+rr+s+s3+sb+sc+se+si+sk+sl+so+sp+st+tg+u+w+x.Lts-sc as sc-lts
 use Rattle.grammar.proofs.se.Reads as se
 use Rattle.grammar.proofs.se.Kinds as se-kinds
-use Rattle.grammar.proofs.+ai+bb+bi+bl+bo+bs+bw+by+ca+cd+ch+ci+co+cs+ea+eb+eg+ei+el+en+er+ex+fi+fo+ic+ii+im+is+it+lc+li+lp+ma+mc+ml+ne+oa+ob+oc+of+oj+on+oo+ot+ou+pa+pg+pj+pk+pl+pp+pq+pr+ps+pu+pw+px+ra+rd+rr+s2+s3+sb+sc+se+si+sk+sl+so+sp+st+tg+tl+wh+xl.Lts-se as se-lts
+use Rattle.grammar.proofs.+a+b+bi+bl+bo+bs+bw+by+ca+cd+ch+ci+co+d+e+eb+eg+ei+el+en+er+ex+f+fo+h+i+im+is+it+l+li+lp+ma+mc+ml+n+o+ob+oc+of+oj+on+oo+ot+ou+p+pg+pj+pk+pl+pp+pq+pr+ps+pu+pw+q+r+rd+rr+s+s3+sb+sc+se+si+sk+sl+so+sp+st+tg+u+w+x.Lts-se as se-lts
 use Rattle.grammar.proofs.si.Reads as si
 use Rattle.grammar.proofs.si.Kinds as si-kinds
-use Rattle.grammar.proofs.+ai+bb+bi+bl+bo+bs+bw+by+ca+cd+ch+ci+co+cs+ea+eb+eg+ei+el+en+er+ex+fi+fo+ic+ii+im+is+it+lc+li+lp+ma+mc+ml+ne+oa+ob+oc+of+oj+on+oo+ot+ou+pa+pg+pj+pk+pl+pp+pq+pr+ps+pu+pw+px+ra+rd+rr+s2+s3+sb+sc+se+si+sk+sl+so+sp+st+tg+tl+wh+xl.Lts-si as si-lts
+use Rattle.grammar.proofs.+a+b+bi+bl+bo+bs+bw+by+ca+cd+ch+ci+co+d+e+eb+eg+ei+el+en+er+ex+f+fo+h+i+im+is+it+l+li+lp+ma+mc+ml+n+o+ob+oc+of+oj+on+oo+ot+ou+p+pg+pj+pk+pl+pp+pq+pr+ps+pu+pw+q+r+rd+rr+s+s3+sb+sc+se+si+sk+sl+so+sp+st+tg+u+w+x.Lts-si as si-lts
 use Rattle.grammar.proofs.sk.Reads as sk
 use Rattle.grammar.proofs.sk.Kinds as sk-kinds
-use Rattle.grammar.proofs.+ai+bb+bi+bl+bo+bs+bw+by+ca+cd+ch+ci+co+cs+ea+eb+eg+ei+el+en+er+ex+fi+fo+ic+ii+im+is+it+lc+li+lp+ma+mc+ml+ne+oa+ob+oc+of+oj+on+oo+ot+ou+pa+pg+pj+pk+pl+pp+pq+pr+ps+pu+pw+px+ra+rd+rr+s2+s3+sb+sc+se+si+sk+sl+so+sp+st+tg+tl+wh+xl.Lts-sk as sk-lts
+use Rattle.grammar.proofs.+a+b+bi+bl+bo+bs+bw+by+ca+cd+ch+ci+co+d+e+eb+eg+ei+el+en+er+ex+f+fo+h+i+im+is+it+l+li+lp+ma+mc+ml+n+o+ob+oc+of+oj+on+oo+ot+ou+p+pg+pj+pk+pl+pp+pq+pr+ps+pu+pw+q+r+rd+rr+s+s3+sb+sc+se+si+sk+sl+so+sp+st+tg+u+w+x.Lts-sk as sk-lts
 use Rattle.grammar.proofs.sl.Reads as sl
 use Rattle.grammar.proofs.sl.Kinds as sl-kinds
-use Rattle.grammar.proofs.+ai+bb+bi+bl+bo+bs+bw+by+ca+cd+ch+ci+co+cs+ea+eb+eg+ei+el+en+er+ex+fi+fo+ic+ii+im+is+it+lc+li+lp+ma+mc+ml+ne+oa+ob+oc+of+oj+on+oo+ot+ou+pa+pg+pj+pk+pl+pp+pq+pr+ps+pu+pw+px+ra+rd+rr+s2+s3+sb+sc+se+si+sk+sl+so+sp+st+tg+tl+wh+xl.Lts-sl as sl-lts
+use Rattle.grammar.proofs.+a+b+bi+bl+bo+bs+bw+by+ca+cd+ch+ci+co+d+e+eb+eg+ei+el+en+er+ex+f+fo+h+i+im+is+it+l+li+lp+ma+mc+ml+n+o+ob+oc+of+oj+on+oo+ot+ou+p+pg+pj+pk+pl+pp+pq+pr+ps+pu+pw+q+r+rd+rr+s+s3+sb+sc+se+si+sk+sl+so+sp+st+tg+u+w+x.Lts-sl as sl-lts
 use Rattle.grammar.proofs.so.Reads as so
 use Rattle.grammar.proofs.so.Kinds as so-kinds
-use Rattle.grammar.proofs.+ai+bb+bi+bl+bo+bs+bw+by+ca+cd+ch+ci+co+cs+ea+eb+eg+ei+el+en+er+ex+fi+fo+ic+ii+im+is+it+lc+li+lp+ma+mc+ml+ne+oa+ob+oc+of+oj+on+oo+ot+ou+pa+pg+pj+pk+pl+pp+pq+pr+ps+pu+pw+px+ra+rd+rr+s2+s3+sb+sc+se+si+sk+sl+so+sp+st+tg+tl+wh+xl.Lts-so as so-lts
+use Rattle.grammar.proofs.+a+b+bi+bl+bo+bs+bw+by+ca+cd+ch+ci+co+d+e+eb+eg+ei+el+en+er+ex+f+fo+h+i+im+is+it+l+li+lp+ma+mc+ml+n+o+ob+oc+of+oj+on+oo+ot+ou+p+pg+pj+pk+pl+pp+pq+pr+ps+pu+pw+q+r+rd+rr+s+s3+sb+sc+se+si+sk+sl+so+sp+st+tg+u+w+x.Lts-so as so-lts
 use Rattle.grammar.proofs.sp.Reads as sp
 use Rattle.grammar.proofs.sp.Kinds as sp-kinds
-use Rattle.grammar.proofs.+ai+bb+bi+bl+bo+bs+bw+by+ca+cd+ch+ci+co+cs+ea+eb+eg+ei+el+en+er+ex+fi+fo+ic+ii+im+is+it+lc+li+lp+ma+mc+ml+ne+oa+ob+oc+of+oj+on+oo+ot+ou+pa+pg+pj+pk+pl+pp+pq+pr+ps+pu+pw+px+ra+rd+rr+s2+s3+sb+sc+se+si+sk+sl+so+sp+st+tg+tl+wh+xl.Lts-sp as sp-lts
+use Rattle.grammar.proofs.+a+b+bi+bl+bo+bs+bw+by+ca+cd+ch+ci+co+d+e+eb+eg+ei+el+en+er+ex+f+fo+h+i+im+is+it+l+li+lp+ma+mc+ml+n+o+ob+oc+of+oj+on+oo+ot+ou+p+pg+pj+pk+pl+pp+pq+pr+ps+pu+pw+q+r+rd+rr+s+s3+sb+sc+se+si+sk+sl+so+sp+st+tg+u+w+x.Lts-sp as sp-lts
 use Rattle.grammar.proofs.st.Reads as st
 use Rattle.grammar.proofs.st.Kinds as st-kinds
-use Rattle.grammar.proofs.+ai+bb+bi+bl+bo+bs+bw+by+ca+cd+ch+ci+co+cs+ea+eb+eg+ei+el+en+er+ex+fi+fo+ic+ii+im+is+it+lc+li+lp+ma+mc+ml+ne+oa+ob+oc+of+oj+on+oo+ot+ou+pa+pg+pj+pk+pl+pp+pq+pr+ps+pu+pw+px+ra+rd+rr+s2+s3+sb+sc+se+si+sk+sl+so+sp+st+tg+tl+wh+xl.Lts-st as st-lts
+use Rattle.grammar.proofs.+a+b+bi+bl+bo+bs+bw+by+ca+cd+ch+ci+co+d+e+eb+eg+ei+el+en+er+ex+f+fo+h+i+im+is+it+l+li+lp+ma+mc+ml+n+o+ob+oc+of+oj+on+oo+ot+ou+p+pg+pj+pk+pl+pp+pq+pr+ps+pu+pw+q+r+rd+rr+s+s3+sb+sc+se+si+sk+sl+so+sp+st+tg+u+w+x.Lts-st as st-lts
 use Rattle.grammar.proofs.tg.Reads as tg
 use Rattle.grammar.proofs.tg.Kinds as tg-kinds
-use Rattle.grammar.proofs.+ai+bb+bi+bl+bo+bs+bw+by+ca+cd+ch+ci+co+cs+ea+eb+eg+ei+el+en+er+ex+fi+fo+ic+ii+im+is+it+lc+li+lp+ma+mc+ml+ne+oa+ob+oc+of+oj+on+oo+ot+ou+pa+pg+pj+pk+pl+pp+pq+pr+ps+pu+pw+px+ra+rd+rr+s2+s3+sb+sc+se+si+sk+sl+so+sp+st+tg+tl+wh+xl.Lts-tg as tg-lts
-use Rattle.grammar.proofs.tl.Reads as tl
-use Rattle.grammar.proofs.tl.Kinds as tl-kinds
-use Rattle.grammar.proofs.+ai+bb+bi+bl+bo+bs+bw+by+ca+cd+ch+ci+co+cs+ea+eb+eg+ei+el+en+er+ex+fi+fo+ic+ii+im+is+it+lc+li+lp+ma+mc+ml+ne+oa+ob+oc+of+oj+on+oo+ot+ou+pa+pg+pj+pk+pl+pp+pq+pr+ps+pu+pw+px+ra+rd+rr+s2+s3+sb+sc+se+si+sk+sl+so+sp+st+tg+tl+wh+xl.Lts-tl as tl-lts
-use Rattle.grammar.proofs.wh.Reads as wh
-use Rattle.grammar.proofs.wh.Kinds as wh-kinds
-use Rattle.grammar.proofs.+ai+bb+bi+bl+bo+bs+bw+by+ca+cd+ch+ci+co+cs+ea+eb+eg+ei+el+en+er+ex+fi+fo+ic+ii+im+is+it+lc+li+lp+ma+mc+ml+ne+oa+ob+oc+of+oj+on+oo+ot+ou+pa+pg+pj+pk+pl+pp+pq+pr+ps+pu+pw+px+ra+rd+rr+s2+s3+sb+sc+se+si+sk+sl+so+sp+st+tg+tl+wh+xl.Lts-wh as wh-lts
-use Rattle.grammar.proofs.xl.Reads as xl
-use Rattle.grammar.proofs.xl.Kinds as xl-kinds
-use Rattle.grammar.proofs.+ai+bb+bi+bl+bo+bs+bw+by+ca+cd+ch+ci+co+cs+ea+eb+eg+ei+el+en+er+ex+fi+fo+ic+ii+im+is+it+lc+li+lp+ma+mc+ml+ne+oa+ob+oc+of+oj+on+oo+ot+ou+pa+pg+pj+pk+pl+pp+pq+pr+ps+pu+pw+px+ra+rd+rr+s2+s3+sb+sc+se+si+sk+sl+so+sp+st+tg+tl+wh+xl.Lts-xl as xl-lts
+use Rattle.grammar.proofs.+a+b+bi+bl+bo+bs+bw+by+ca+cd+ch+ci+co+d+e+eb+eg+ei+el+en+er+ex+f+fo+h+i+im+is+it+l+li+lp+ma+mc+ml+n+o+ob+oc+of+oj+on+oo+ot+ou+p+pg+pj+pk+pl+pp+pq+pr+ps+pu+pw+q+r+rd+rr+s+s3+sb+sc+se+si+sk+sl+so+sp+st+tg+u+w+x.Lts-tg as tg-lts
+use Rattle.grammar.proofs.u.Reads as u
+use Rattle.grammar.proofs.u.Kinds as u-kinds
+use Rattle.grammar.proofs.+a+b+bi+bl+bo+bs+bw+by+ca+cd+ch+ci+co+d+e+eb+eg+ei+el+en+er+ex+f+fo+h+i+im+is+it+l+li+lp+ma+mc+ml+n+o+ob+oc+of+oj+on+oo+ot+ou+p+pg+pj+pk+pl+pp+pq+pr+ps+pu+pw+q+r+rd+rr+s+s3+sb+sc+se+si+sk+sl+so+sp+st+tg+u+w+x.Lts-u as u-lts
+use Rattle.grammar.proofs.w.Reads as w
+use Rattle.grammar.proofs.w.Kinds as w-kinds
+use Rattle.grammar.proofs.+a+b+bi+bl+bo+bs+bw+by+ca+cd+ch+ci+co+d+e+eb+eg+ei+el+en+er+ex+f+fo+h+i+im+is+it+l+li+lp+ma+mc+ml+n+o+ob+oc+of+oj+on+oo+ot+ou+p+pg+pj+pk+pl+pp+pq+pr+ps+pu+pw+q+r+rd+rr+s+s3+sb+sc+se+si+sk+sl+so+sp+st+tg+u+w+x.Lts-w as w-lts
+use Rattle.grammar.proofs.x.Reads as x
+use Rattle.grammar.proofs.x.Kinds as x-kinds
+use Rattle.grammar.proofs.+a+b+bi+bl+bo+bs+bw+by+ca+cd+ch+ci+co+d+e+eb+eg+ei+el+en+er+ex+f+fo+h+i+im+is+it+l+li+lp+ma+mc+ml+n+o+ob+oc+of+oj+on+oo+ot+ou+p+pg+pj+pk+pl+pp+pq+pr+ps+pu+pw+q+r+rd+rr+s+s3+sb+sc+se+si+sk+sl+so+sp+st+tg+u+w+x.Lts-x as x-lts
 use Rattle.grammar.proofs.steps.field_link.Reads as field-link-reads
 use Rattle.grammar.proofs.steps.finish.Reads as finish-reads
 use Rattle.grammar.proofs.steps.item_end.Reads as item-end-reads
@@ -292,18 +292,18 @@ use Rattle.tape.proofs.Tape.peek.Reads as peek-reads
 use Rattle.tape.proofs.Tape.peek_second.Reads as peek-second-reads
 use Rattle.tape.proofs.Tape.push.Reads as push-reads
 use Rattle.tape.proofs.Tape.refuse.Reads as refuse-reads
-use Rattle.grammar.proofs.+ai+bb+bi+bl+bo+bs+bw+by+ca+cd+ch+ci+co+cs+ea+eb+eg+ei+el+en+er+ex+fi+fo+ic+ii+im+is+it+lc+li+lp+ma+mc+ml+ne+oa+ob+oc+of+oj+on+oo+ot+ou+pa+pg+pj+pk+pl+pp+pq+pr+ps+pu+pw+px+ra+rd+rr+s2+s3+sb+sc+se+si+sk+sl+so+sp+st+tg+tl+wh+xl.{
+use Rattle.grammar.proofs.+a+b+bi+bl+bo+bs+bw+by+ca+cd+ch+ci+co+d+e+eb+eg+ei+el+en+er+ex+f+fo+h+i+im+is+it+l+li+lp+ma+mc+ml+n+o+ob+oc+of+oj+on+oo+ot+ou+p+pg+pj+pk+pl+pp+pq+pr+ps+pu+pw+q+r+rd+rr+s+s3+sb+sc+se+si+sk+sl+so+sp+st+tg+u+w+x.{
   statement,
 }
-use Rattle.grammar.proofs.+ai+bb+bi+bl+bo+bs+bw+by+ca+cd+ch+ci+co+cs+ea+eb+eg+ei+el+en+er+ex+fi+fo+ic+ii+im+is+it+lc+li+lp+ma+mc+ml+ne+oa+ob+oc+of+oj+on+oo+ot+ou+pa+pg+pj+pk+pl+pp+pq+pr+ps+pu+pw+px+ra+rd+rr+s2+s3+sb+sc+se+si+sk+sl+so+sp+st+tg+tl+wh+xl.Tie.{
+use Rattle.grammar.proofs.+a+b+bi+bl+bo+bs+bw+by+ca+cd+ch+ci+co+d+e+eb+eg+ei+el+en+er+ex+f+fo+h+i+im+is+it+l+li+lp+ma+mc+ml+n+o+ob+oc+of+oj+on+oo+ot+ou+p+pg+pj+pk+pl+pp+pq+pr+ps+pu+pw+q+r+rd+rr+s+s3+sb+sc+se+si+sk+sl+so+sp+st+tg+u+w+x.Tie.{
   close,
 }
 
-abbrev μ-ai : Measures 3 ai-kinds.ps ℕ
-μ-ai κs a = 17 * a .0 .left + 2
+abbrev μ-a : Measures 3 a-kinds.ps ℕ
+μ-a κs a = 17 * a .0 .left + 2
 
-abbrev μ-bb : Measures 3 bb-kinds.ps ℕ
-μ-bb κs a = 17 * a .0 .left + 3
+abbrev μ-b : Measures 3 b-kinds.ps ℕ
+μ-b κs a = 17 * a .0 .left + 3
 
 abbrev μ-bi : Measures 3 bi-kinds.ps ℕ
 μ-bi κs a = 17 * a .0 .left + 0
@@ -338,11 +338,11 @@ abbrev μ-ci : Measures 3 ci-kinds.ps ℕ
 abbrev μ-co : Measures 3 co-kinds.ps ℕ
 μ-co κs a = 17 * a .0 .left + 4
 
-abbrev μ-cs : Measures 3 cs-kinds.ps ℕ
-μ-cs κs a = 17 * a .0 .left + 6
+abbrev μ-d : Measures 3 d-kinds.ps ℕ
+μ-d κs a = 17 * a .0 .left + 6
 
-abbrev μ-ea : Measures 3 ea-kinds.ps ℕ
-μ-ea κs a = 17 * a .0 .left + 2
+abbrev μ-e : Measures 3 e-kinds.ps ℕ
+μ-e κs a = 17 * a .0 .left + 2
 
 abbrev μ-eb : Measures 3 eb-kinds.ps ℕ
 μ-eb κs a = 17 * a .0 .left + 6
@@ -365,17 +365,17 @@ abbrev μ-er : Measures 3 er-kinds.ps ℕ
 abbrev μ-ex : Measures 3 ex-kinds.ps ℕ
 μ-ex κs a = 17 * a .0 .left + 1
 
-abbrev μ-fi : Measures 3 fi-kinds.ps ℕ
-μ-fi κs a = 17 * a .0 .left + 2
+abbrev μ-f : Measures 3 f-kinds.ps ℕ
+μ-f κs a = 17 * a .0 .left + 2
 
 abbrev μ-fo : Measures 3 fo-kinds.ps ℕ
 μ-fo κs a = 17 * a .0 .left + 6
 
-abbrev μ-ic : Measures 3 ic-kinds.ps ℕ
-μ-ic κs a = 17 * a .0 .left + 2
+abbrev μ-h : Measures 3 h-kinds.ps ℕ
+μ-h κs a = 17 * a .0 .left + 2
 
-abbrev μ-ii : Measures 3 ii-kinds.ps ℕ
-μ-ii κs a = 17 * a .0 .left + 6
+abbrev μ-i : Measures 3 i-kinds.ps ℕ
+μ-i κs a = 17 * a .0 .left + 6
 
 abbrev μ-im : Measures 3 im-kinds.ps ℕ
 μ-im κs a = 17 * a .0 .left + 6
@@ -386,8 +386,8 @@ abbrev μ-is : Measures 3 is-kinds.ps ℕ
 abbrev μ-it : Measures 3 it-kinds.ps ℕ
 μ-it κs a = 17 * a .0 .left + 6
 
-abbrev μ-lc : Measures 3 lc-kinds.ps ℕ
-μ-lc κs a = 17 * a .0 .left + 2
+abbrev μ-l : Measures 3 l-kinds.ps ℕ
+μ-l κs a = 17 * a .0 .left + 2
 
 abbrev μ-li : Measures 3 li-kinds.ps ℕ
 μ-li κs a = 17 * a .0 .left + 5
@@ -404,11 +404,11 @@ abbrev μ-mc : Measures 3 mc-kinds.ps ℕ
 abbrev μ-ml : Measures 3 ml-kinds.ps ℕ
 μ-ml κs a = 17 * a .0 .left + 4
 
-abbrev μ-ne : Measures 3 ne-kinds.ps ℕ
-μ-ne κs a = 17 * a .0 .left + 1
+abbrev μ-n : Measures 3 n-kinds.ps ℕ
+μ-n κs a = 17 * a .0 .left + 1
 
-abbrev μ-oa : Measures 3 oa-kinds.ps ℕ
-μ-oa κs a = 17 * a .0 .left + 2
+abbrev μ-o : Measures 3 o-kinds.ps ℕ
+μ-o κs a = 17 * a .0 .left + 2
 
 abbrev μ-ob : Measures 3 ob-kinds.ps ℕ
 μ-ob κs a = 17 * a .0 .left + 16
@@ -434,8 +434,8 @@ abbrev μ-ot : Measures 3 ot-kinds.ps ℕ
 abbrev μ-ou : Measures 3 ou-kinds.ps ℕ
 μ-ou κs a = 17 * a .0 .left + 0
 
-abbrev μ-pa : Measures 3 pa-kinds.ps ℕ
-μ-pa κs a = 17 * a .0 .left + 7
+abbrev μ-p : Measures 3 p-kinds.ps ℕ
+μ-p κs a = 17 * a .0 .left + 7
 
 abbrev μ-pg : Measures 3 pg-kinds.ps ℕ
 μ-pg κs a = 17 * a .0 .left + 8
@@ -467,11 +467,11 @@ abbrev μ-pu : Measures 3 pu-kinds.ps ℕ
 abbrev μ-pw : Measures 3 pw-kinds.ps ℕ
 μ-pw κs a = 17 * a .0 .left + 10
 
-abbrev μ-px : Measures 3 px-kinds.ps ℕ
-μ-px κs a = 17 * a .0 .left + 12
+abbrev μ-q : Measures 3 q-kinds.ps ℕ
+μ-q κs a = 17 * a .0 .left + 12
 
-abbrev μ-ra : Measures 3 ra-kinds.ps ℕ
-μ-ra κs a = 17 * a .0 .left + 1
+abbrev μ-r : Measures 3 r-kinds.ps ℕ
+μ-r κs a = 17 * a .0 .left + 1
 
 abbrev μ-rd : Measures 3 rd-kinds.ps ℕ
 μ-rd κs a = 17 * a .0 .left + 2
@@ -479,8 +479,8 @@ abbrev μ-rd : Measures 3 rd-kinds.ps ℕ
 abbrev μ-rr : Measures 3 rr-kinds.ps ℕ
 μ-rr κs a = 17 * a .0 .left + 1
 
-abbrev μ-s2 : Measures 3 s2-kinds.ps ℕ
-μ-s2 κs a = 17 * a .0 .left + 7
+abbrev μ-s : Measures 3 s-kinds.ps ℕ
+μ-s κs a = 17 * a .0 .left + 7
 
 abbrev μ-s3 : Measures 3 s3-kinds.ps ℕ
 μ-s3 κs a = 17 * a .0 .left + 3
@@ -515,26 +515,26 @@ abbrev μ-st : Measures 3 st-kinds.ps ℕ
 abbrev μ-tg : Measures 3 tg-kinds.ps ℕ
 μ-tg κs a = 17 * a .0 .left + 3
 
-abbrev μ-tl : Measures 3 tl-kinds.ps ℕ
-μ-tl κs a = 17 * a .0 .left + 2
+abbrev μ-u : Measures 3 u-kinds.ps ℕ
+μ-u κs a = 17 * a .0 .left + 2
 
-abbrev μ-wh : Measures 3 wh-kinds.ps ℕ
-μ-wh κs a = 17 * a .0 .left + 6
+abbrev μ-w : Measures 3 w-kinds.ps ℕ
+μ-w κs a = 17 * a .0 .left + 6
 
-abbrev μ-xl : Measures 3 xl-kinds.ps ℕ
-μ-xl κs a = 17 * a .0 .left + 2
+abbrev μ-x : Measures 3 x-kinds.ps ℕ
+μ-x κs a = 17 * a .0 .left + 2
 
-abbrev ai-at : ℕ → In 3 ai-kinds.ps
-ai-at t = and 3 ai-kinds.ps (is 3 ai-kinds.ps μ-ai t) ai.Pre
+abbrev a-at : ℕ → In 3 a-kinds.ps
+a-at t = and 3 a-kinds.ps (is 3 a-kinds.ps μ-a t) a.Pre
 
-abbrev ai-below : ℕ → In 3 ai-kinds.ps
-ai-below t = and 3 ai-kinds.ps (falls 3 ai-kinds.ps _<_ μ-ai t) ai.Pre
+abbrev a-below : ℕ → In 3 a-kinds.ps
+a-below t = and 3 a-kinds.ps (falls 3 a-kinds.ps _<_ μ-a t) a.Pre
 
-abbrev bb-at : ℕ → In 3 bb-kinds.ps
-bb-at t = and 3 bb-kinds.ps (is 3 bb-kinds.ps μ-bb t) bb.Pre
+abbrev b-at : ℕ → In 3 b-kinds.ps
+b-at t = and 3 b-kinds.ps (is 3 b-kinds.ps μ-b t) b.Pre
 
-abbrev bb-below : ℕ → In 3 bb-kinds.ps
-bb-below t = and 3 bb-kinds.ps (falls 3 bb-kinds.ps _<_ μ-bb t) bb.Pre
+abbrev b-below : ℕ → In 3 b-kinds.ps
+b-below t = and 3 b-kinds.ps (falls 3 b-kinds.ps _<_ μ-b t) b.Pre
 
 abbrev bi-at : ℕ → In 3 bi-kinds.ps
 bi-at t = and 3 bi-kinds.ps (is 3 bi-kinds.ps μ-bi t) bi.Pre
@@ -602,17 +602,17 @@ co-at t = and 3 co-kinds.ps (is 3 co-kinds.ps μ-co t) co.Pre
 abbrev co-below : ℕ → In 3 co-kinds.ps
 co-below t = and 3 co-kinds.ps (falls 3 co-kinds.ps _<_ μ-co t) co.Pre
 
-abbrev cs-at : ℕ → In 3 cs-kinds.ps
-cs-at t = and 3 cs-kinds.ps (is 3 cs-kinds.ps μ-cs t) cs.Pre
+abbrev d-at : ℕ → In 3 d-kinds.ps
+d-at t = and 3 d-kinds.ps (is 3 d-kinds.ps μ-d t) d.Pre
 
-abbrev cs-below : ℕ → In 3 cs-kinds.ps
-cs-below t = and 3 cs-kinds.ps (falls 3 cs-kinds.ps _<_ μ-cs t) cs.Pre
+abbrev d-below : ℕ → In 3 d-kinds.ps
+d-below t = and 3 d-kinds.ps (falls 3 d-kinds.ps _<_ μ-d t) d.Pre
 
-abbrev ea-at : ℕ → In 3 ea-kinds.ps
-ea-at t = and 3 ea-kinds.ps (is 3 ea-kinds.ps μ-ea t) ea.Pre
+abbrev e-at : ℕ → In 3 e-kinds.ps
+e-at t = and 3 e-kinds.ps (is 3 e-kinds.ps μ-e t) e.Pre
 
-abbrev ea-below : ℕ → In 3 ea-kinds.ps
-ea-below t = and 3 ea-kinds.ps (falls 3 ea-kinds.ps _<_ μ-ea t) ea.Pre
+abbrev e-below : ℕ → In 3 e-kinds.ps
+e-below t = and 3 e-kinds.ps (falls 3 e-kinds.ps _<_ μ-e t) e.Pre
 
 abbrev eb-at : ℕ → In 3 eb-kinds.ps
 eb-at t = and 3 eb-kinds.ps (is 3 eb-kinds.ps μ-eb t) eb.Pre
@@ -656,11 +656,11 @@ ex-at t = and 3 ex-kinds.ps (is 3 ex-kinds.ps μ-ex t) ex.Pre
 abbrev ex-below : ℕ → In 3 ex-kinds.ps
 ex-below t = and 3 ex-kinds.ps (falls 3 ex-kinds.ps _<_ μ-ex t) ex.Pre
 
-abbrev fi-at : ℕ → In 3 fi-kinds.ps
-fi-at t = and 3 fi-kinds.ps (is 3 fi-kinds.ps μ-fi t) fi.Pre
+abbrev f-at : ℕ → In 3 f-kinds.ps
+f-at t = and 3 f-kinds.ps (is 3 f-kinds.ps μ-f t) f.Pre
 
-abbrev fi-below : ℕ → In 3 fi-kinds.ps
-fi-below t = and 3 fi-kinds.ps (falls 3 fi-kinds.ps _<_ μ-fi t) fi.Pre
+abbrev f-below : ℕ → In 3 f-kinds.ps
+f-below t = and 3 f-kinds.ps (falls 3 f-kinds.ps _<_ μ-f t) f.Pre
 
 abbrev fo-at : ℕ → In 3 fo-kinds.ps
 fo-at t = and 3 fo-kinds.ps (is 3 fo-kinds.ps μ-fo t) fo.Pre
@@ -668,17 +668,17 @@ fo-at t = and 3 fo-kinds.ps (is 3 fo-kinds.ps μ-fo t) fo.Pre
 abbrev fo-below : ℕ → In 3 fo-kinds.ps
 fo-below t = and 3 fo-kinds.ps (falls 3 fo-kinds.ps _<_ μ-fo t) fo.Pre
 
-abbrev ic-at : ℕ → In 3 ic-kinds.ps
-ic-at t = and 3 ic-kinds.ps (is 3 ic-kinds.ps μ-ic t) ic.Pre
+abbrev h-at : ℕ → In 3 h-kinds.ps
+h-at t = and 3 h-kinds.ps (is 3 h-kinds.ps μ-h t) h.Pre
 
-abbrev ic-below : ℕ → In 3 ic-kinds.ps
-ic-below t = and 3 ic-kinds.ps (falls 3 ic-kinds.ps _<_ μ-ic t) ic.Pre
+abbrev h-below : ℕ → In 3 h-kinds.ps
+h-below t = and 3 h-kinds.ps (falls 3 h-kinds.ps _<_ μ-h t) h.Pre
 
-abbrev ii-at : ℕ → In 3 ii-kinds.ps
-ii-at t = and 3 ii-kinds.ps (is 3 ii-kinds.ps μ-ii t) ii.Pre
+abbrev i-at : ℕ → In 3 i-kinds.ps
+i-at t = and 3 i-kinds.ps (is 3 i-kinds.ps μ-i t) i.Pre
 
-abbrev ii-below : ℕ → In 3 ii-kinds.ps
-ii-below t = and 3 ii-kinds.ps (falls 3 ii-kinds.ps _<_ μ-ii t) ii.Pre
+abbrev i-below : ℕ → In 3 i-kinds.ps
+i-below t = and 3 i-kinds.ps (falls 3 i-kinds.ps _<_ μ-i t) i.Pre
 
 abbrev im-at : ℕ → In 3 im-kinds.ps
 im-at t = and 3 im-kinds.ps (is 3 im-kinds.ps μ-im t) im.Pre
@@ -698,11 +698,11 @@ it-at t = and 3 it-kinds.ps (is 3 it-kinds.ps μ-it t) it.Pre
 abbrev it-below : ℕ → In 3 it-kinds.ps
 it-below t = and 3 it-kinds.ps (falls 3 it-kinds.ps _<_ μ-it t) it.Pre
 
-abbrev lc-at : ℕ → In 3 lc-kinds.ps
-lc-at t = and 3 lc-kinds.ps (is 3 lc-kinds.ps μ-lc t) lc.Pre
+abbrev l-at : ℕ → In 3 l-kinds.ps
+l-at t = and 3 l-kinds.ps (is 3 l-kinds.ps μ-l t) l.Pre
 
-abbrev lc-below : ℕ → In 3 lc-kinds.ps
-lc-below t = and 3 lc-kinds.ps (falls 3 lc-kinds.ps _<_ μ-lc t) lc.Pre
+abbrev l-below : ℕ → In 3 l-kinds.ps
+l-below t = and 3 l-kinds.ps (falls 3 l-kinds.ps _<_ μ-l t) l.Pre
 
 abbrev li-at : ℕ → In 3 li-kinds.ps
 li-at t = and 3 li-kinds.ps (is 3 li-kinds.ps μ-li t) li.Pre
@@ -734,17 +734,17 @@ ml-at t = and 3 ml-kinds.ps (is 3 ml-kinds.ps μ-ml t) ml.Pre
 abbrev ml-below : ℕ → In 3 ml-kinds.ps
 ml-below t = and 3 ml-kinds.ps (falls 3 ml-kinds.ps _<_ μ-ml t) ml.Pre
 
-abbrev ne-at : ℕ → In 3 ne-kinds.ps
-ne-at t = and 3 ne-kinds.ps (is 3 ne-kinds.ps μ-ne t) ne.Pre
+abbrev n-at : ℕ → In 3 n-kinds.ps
+n-at t = and 3 n-kinds.ps (is 3 n-kinds.ps μ-n t) n.Pre
 
-abbrev ne-below : ℕ → In 3 ne-kinds.ps
-ne-below t = and 3 ne-kinds.ps (falls 3 ne-kinds.ps _<_ μ-ne t) ne.Pre
+abbrev n-below : ℕ → In 3 n-kinds.ps
+n-below t = and 3 n-kinds.ps (falls 3 n-kinds.ps _<_ μ-n t) n.Pre
 
-abbrev oa-at : ℕ → In 3 oa-kinds.ps
-oa-at t = and 3 oa-kinds.ps (is 3 oa-kinds.ps μ-oa t) oa.Pre
+abbrev o-at : ℕ → In 3 o-kinds.ps
+o-at t = and 3 o-kinds.ps (is 3 o-kinds.ps μ-o t) o.Pre
 
-abbrev oa-below : ℕ → In 3 oa-kinds.ps
-oa-below t = and 3 oa-kinds.ps (falls 3 oa-kinds.ps _<_ μ-oa t) oa.Pre
+abbrev o-below : ℕ → In 3 o-kinds.ps
+o-below t = and 3 o-kinds.ps (falls 3 o-kinds.ps _<_ μ-o t) o.Pre
 
 abbrev ob-at : ℕ → In 3 ob-kinds.ps
 ob-at t = and 3 ob-kinds.ps (is 3 ob-kinds.ps μ-ob t) ob.Pre
@@ -794,11 +794,11 @@ ou-at t = and 3 ou-kinds.ps (is 3 ou-kinds.ps μ-ou t) ou.Pre
 abbrev ou-below : ℕ → In 3 ou-kinds.ps
 ou-below t = and 3 ou-kinds.ps (falls 3 ou-kinds.ps _<_ μ-ou t) ou.Pre
 
-abbrev pa-at : ℕ → In 3 pa-kinds.ps
-pa-at t = and 3 pa-kinds.ps (is 3 pa-kinds.ps μ-pa t) pa.Pre
+abbrev p-at : ℕ → In 3 p-kinds.ps
+p-at t = and 3 p-kinds.ps (is 3 p-kinds.ps μ-p t) p.Pre
 
-abbrev pa-below : ℕ → In 3 pa-kinds.ps
-pa-below t = and 3 pa-kinds.ps (falls 3 pa-kinds.ps _<_ μ-pa t) pa.Pre
+abbrev p-below : ℕ → In 3 p-kinds.ps
+p-below t = and 3 p-kinds.ps (falls 3 p-kinds.ps _<_ μ-p t) p.Pre
 
 abbrev pg-at : ℕ → In 3 pg-kinds.ps
 pg-at t = and 3 pg-kinds.ps (is 3 pg-kinds.ps μ-pg t) pg.Pre
@@ -860,17 +860,17 @@ pw-at t = and 3 pw-kinds.ps (is 3 pw-kinds.ps μ-pw t) pw.Pre
 abbrev pw-below : ℕ → In 3 pw-kinds.ps
 pw-below t = and 3 pw-kinds.ps (falls 3 pw-kinds.ps _<_ μ-pw t) pw.Pre
 
-abbrev px-at : ℕ → In 3 px-kinds.ps
-px-at t = and 3 px-kinds.ps (is 3 px-kinds.ps μ-px t) px.Pre
+abbrev q-at : ℕ → In 3 q-kinds.ps
+q-at t = and 3 q-kinds.ps (is 3 q-kinds.ps μ-q t) q.Pre
 
-abbrev px-below : ℕ → In 3 px-kinds.ps
-px-below t = and 3 px-kinds.ps (falls 3 px-kinds.ps _<_ μ-px t) px.Pre
+abbrev q-below : ℕ → In 3 q-kinds.ps
+q-below t = and 3 q-kinds.ps (falls 3 q-kinds.ps _<_ μ-q t) q.Pre
 
-abbrev ra-at : ℕ → In 3 ra-kinds.ps
-ra-at t = and 3 ra-kinds.ps (is 3 ra-kinds.ps μ-ra t) ra.Pre
+abbrev r-at : ℕ → In 3 r-kinds.ps
+r-at t = and 3 r-kinds.ps (is 3 r-kinds.ps μ-r t) r.Pre
 
-abbrev ra-below : ℕ → In 3 ra-kinds.ps
-ra-below t = and 3 ra-kinds.ps (falls 3 ra-kinds.ps _<_ μ-ra t) ra.Pre
+abbrev r-below : ℕ → In 3 r-kinds.ps
+r-below t = and 3 r-kinds.ps (falls 3 r-kinds.ps _<_ μ-r t) r.Pre
 
 abbrev rd-at : ℕ → In 3 rd-kinds.ps
 rd-at t = and 3 rd-kinds.ps (is 3 rd-kinds.ps μ-rd t) rd.Pre
@@ -884,11 +884,11 @@ rr-at t = and 3 rr-kinds.ps (is 3 rr-kinds.ps μ-rr t) rr.Pre
 abbrev rr-below : ℕ → In 3 rr-kinds.ps
 rr-below t = and 3 rr-kinds.ps (falls 3 rr-kinds.ps _<_ μ-rr t) rr.Pre
 
-abbrev s2-at : ℕ → In 3 s2-kinds.ps
-s2-at t = and 3 s2-kinds.ps (is 3 s2-kinds.ps μ-s2 t) s2.Pre
+abbrev s-at : ℕ → In 3 s-kinds.ps
+s-at t = and 3 s-kinds.ps (is 3 s-kinds.ps μ-s t) s.Pre
 
-abbrev s2-below : ℕ → In 3 s2-kinds.ps
-s2-below t = and 3 s2-kinds.ps (falls 3 s2-kinds.ps _<_ μ-s2 t) s2.Pre
+abbrev s-below : ℕ → In 3 s-kinds.ps
+s-below t = and 3 s-kinds.ps (falls 3 s-kinds.ps _<_ μ-s t) s.Pre
 
 abbrev s3-at : ℕ → In 3 s3-kinds.ps
 s3-at t = and 3 s3-kinds.ps (is 3 s3-kinds.ps μ-s3 t) s3.Pre
@@ -956,26 +956,26 @@ tg-at t = and 3 tg-kinds.ps (is 3 tg-kinds.ps μ-tg t) tg.Pre
 abbrev tg-below : ℕ → In 3 tg-kinds.ps
 tg-below t = and 3 tg-kinds.ps (falls 3 tg-kinds.ps _<_ μ-tg t) tg.Pre
 
-abbrev tl-at : ℕ → In 3 tl-kinds.ps
-tl-at t = and 3 tl-kinds.ps (is 3 tl-kinds.ps μ-tl t) tl.Pre
+abbrev u-at : ℕ → In 3 u-kinds.ps
+u-at t = and 3 u-kinds.ps (is 3 u-kinds.ps μ-u t) u.Pre
 
-abbrev tl-below : ℕ → In 3 tl-kinds.ps
-tl-below t = and 3 tl-kinds.ps (falls 3 tl-kinds.ps _<_ μ-tl t) tl.Pre
+abbrev u-below : ℕ → In 3 u-kinds.ps
+u-below t = and 3 u-kinds.ps (falls 3 u-kinds.ps _<_ μ-u t) u.Pre
 
-abbrev wh-at : ℕ → In 3 wh-kinds.ps
-wh-at t = and 3 wh-kinds.ps (is 3 wh-kinds.ps μ-wh t) wh.Pre
+abbrev w-at : ℕ → In 3 w-kinds.ps
+w-at t = and 3 w-kinds.ps (is 3 w-kinds.ps μ-w t) w.Pre
 
-abbrev wh-below : ℕ → In 3 wh-kinds.ps
-wh-below t = and 3 wh-kinds.ps (falls 3 wh-kinds.ps _<_ μ-wh t) wh.Pre
+abbrev w-below : ℕ → In 3 w-kinds.ps
+w-below t = and 3 w-kinds.ps (falls 3 w-kinds.ps _<_ μ-w t) w.Pre
 
-abbrev xl-at : ℕ → In 3 xl-kinds.ps
-xl-at t = and 3 xl-kinds.ps (is 3 xl-kinds.ps μ-xl t) xl.Pre
+abbrev x-at : ℕ → In 3 x-kinds.ps
+x-at t = and 3 x-kinds.ps (is 3 x-kinds.ps μ-x t) x.Pre
 
-abbrev xl-below : ℕ → In 3 xl-kinds.ps
-xl-below t = and 3 xl-kinds.ps (falls 3 xl-kinds.ps _<_ μ-xl t) xl.Pre
+abbrev x-below : ℕ → In 3 x-kinds.ps
+x-below t = and 3 x-kinds.ps (falls 3 x-kinds.ps _<_ μ-x t) x.Pre
 
 -- src/lib.rt:1398:51
-ai-peek-requires : (t : ℕ) → ai-lts.Need-peek-requires (
+a-peek-requires : (t : ℕ) → a-lts.Need-peek-requires (
   peek-reads.Asked,
   peek-reads.Learnt,
   glued-reads.Asked,
@@ -984,12 +984,12 @@ ai-peek-requires : (t : ℕ) → ai-lts.Need-peek-requires (
   is-expr-with-reads.Learnt,
   ex-below t,
   ex.Post,
-) (ai-at t) ai.Post
-ai-peek-requires t c κs =
+) (a-at t) a.Post
+a-peek-requires t c κs =
     (c .before .before .before .pre .1) .looks
 
 -- src/lib.rt:1398:69
-ai-glued-requires : (t : ℕ) → ai-lts.Need-glued-requires (
+a-glued-requires : (t : ℕ) → a-lts.Need-glued-requires (
   peek-reads.Asked,
   peek-reads.Learnt,
   glued-reads.Asked,
@@ -998,12 +998,12 @@ ai-glued-requires : (t : ℕ) → ai-lts.Need-glued-requires (
   is-expr-with-reads.Learnt,
   ex-below t,
   ex.Post,
-) (ai-at t) ai.Post
-ai-glued-requires t c κs =
+) (a-at t) a.Post
+a-glued-requires t c κs =
     (c .before .before .before .before .pre .1) .looks
 
 -- src/lib.rt:1398:8
-ai-is-expr-with-requires : (t : ℕ) → ai-lts.Need-is-expr-with-requires (
+a-is-expr-with-requires : (t : ℕ) → a-lts.Need-is-expr-with-requires (
   peek-reads.Asked,
   peek-reads.Learnt,
   glued-reads.Asked,
@@ -1012,12 +1012,12 @@ ai-is-expr-with-requires : (t : ℕ) → ai-lts.Need-is-expr-with-requires (
   is-expr-with-reads.Learnt,
   ex-below t,
   ex.Post,
-) (ai-at t) ai.Post
-ai-is-expr-with-requires t c κs =
+) (a-at t) a.Post
+a-is-expr-with-requires t c κs =
     search needs
 
 -- src/lib.rt:1399:9
-ai-ex-requires : (t : ℕ) → ai-lts.Need-ex-requires (
+a-ex-requires : (t : ℕ) → a-lts.Need-ex-requires (
   peek-reads.Asked,
   peek-reads.Learnt,
   glued-reads.Asked,
@@ -1026,12 +1026,12 @@ ai-ex-requires : (t : ℕ) → ai-lts.Need-ex-requires (
   is-expr-with-reads.Learnt,
   ex-below t,
   ex.Post,
-) (ai-at t) ai.Post
-ai-ex-requires t c κs =
+) (a-at t) a.Post
+a-ex-requires t c κs =
     (omega (arith, c .before .before .before .before .before .before .before .before .pre .0), c .before .before .before .before .before .before .before .before .pre .1)
 
 -- src/lib.rt:1399:9
-ai-same-length : (t : ℕ) → ai-lts.Need-same-length (
+a-same-length : (t : ℕ) → a-lts.Need-same-length (
   peek-reads.Asked,
   peek-reads.Learnt,
   glued-reads.Asked,
@@ -1040,12 +1040,12 @@ ai-same-length : (t : ℕ) → ai-lts.Need-same-length (
   is-expr-with-reads.Learnt,
   ex-below t,
   ex.Post,
-) (ai-at t) ai.Post
-ai-same-length t c =
+) (a-at t) a.Post
+a-same-length t c =
     c .before .before .ex .ensures .under 0 .len
 
 -- src/lib.rt:1399:9
-ai-returns : (t : ℕ) → ai-lts.Need-returns (
+a-returns : (t : ℕ) → a-lts.Need-returns (
   peek-reads.Asked,
   peek-reads.Learnt,
   glued-reads.Asked,
@@ -1054,13 +1054,13 @@ ai-returns : (t : ℕ) → ai-lts.Need-returns (
   is-expr-with-reads.Learnt,
   ex-below t,
   ex.Post,
-) (ai-at t) ai.Post
+) (a-at t) a.Post
 unfolding expr-if-any
-ai-returns t c =
+a-returns t c =
     record { under = λ m. ask-glued (c .before .before .before .before .before .before .before .peek .ensures) (c .before .before .before .before .before .before .glued .ensures) (if-yes (sym (c .before .before .before .before .before .is-expr-with .ensures) ∙ c .before .before .before .before .if1 .taken) (c .before .before .ex .ensures .under _)) }
 
 -- src/lib.rt:1394:1
-ai-returns-2 : (t : ℕ) → ai-lts.Need-returns-2 (
+a-returns-2 : (t : ℕ) → a-lts.Need-returns-2 (
   peek-reads.Asked,
   peek-reads.Learnt,
   glued-reads.Asked,
@@ -1069,21 +1069,21 @@ ai-returns-2 : (t : ℕ) → ai-lts.Need-returns-2 (
   is-expr-with-reads.Learnt,
   ex-below t,
   ex.Post,
-) (ai-at t) ai.Post
+) (a-at t) a.Post
 unfolding expr-if-any
-ai-returns-2 t c =
+a-returns-2 t c =
     record { under = λ m. ask-glued (c .before .before .before .peek .ensures) (c .before .before .glued .ensures) (if-no (sym (c .before .is-expr-with .ensures) ∙ c .if1 .left) (nothing (c .before .before .before .before .before .before .before .pre .1))) }
 
-abbrev bb-Inv-loop : bb-lts.InvT-loop
-bb-Inv-loop least brace cx kinds lens table₀ t₀ next₀ any₀ table t next any =
+abbrev b-Inv-loop : b-lts.InvT-loop
+b-Inv-loop least brace cx kinds lens table₀ t₀ next₀ any₀ table t next any =
     Binding least brace cx next₀ next any t₀ t kinds lens table₀ table
 
-abbrev bb-μ-loop : bb-lts.MeasureT-loop
-bb-μ-loop least brace cx kinds lens table₀ t₀ next₀ any₀ table t next any =
+abbrev b-μ-loop : b-lts.MeasureT-loop
+b-μ-loop least brace cx kinds lens table₀ t₀ next₀ any₀ table t next any =
     fuel t kinds
 
 -- src/lib.rt:1444:5
-bb-loop-holds : (t : ℕ) → bb-lts.Need-loop-holds (
+b-loop-holds : (t : ℕ) → b-lts.Need-loop-holds (
   is-below-reads.Asked,
   is-below-reads.Learnt,
   operator-reads.Asked,
@@ -1096,13 +1096,13 @@ bb-loop-holds : (t : ℕ) → bb-lts.Need-loop-holds (
   peek-second-reads.Learnt,
   from-slice-reads.Asked,
   from-slice-reads.Learnt,
-) (bb-at t) bb.Post bb-Inv-loop bb-μ-loop
+) (b-at t) b.Post b-Inv-loop b-μ-loop
 unfolding binary-body binary-turn
-bb-loop-holds t c =
+b-loop-holds t c =
     record { loop = record { ready = c .before .before .before .pre .1 .1; under = λ m. inv-start }; next = c .before .before .before .pre .1 .0 }
 
 -- src/lib.rt:1445:12
-bb-is-below-requires : (t : ℕ) → bb-lts.Need-is-below-requires (
+b-is-below-requires : (t : ℕ) → b-lts.Need-is-below-requires (
   is-below-reads.Asked,
   is-below-reads.Learnt,
   operator-reads.Asked,
@@ -1115,12 +1115,12 @@ bb-is-below-requires : (t : ℕ) → bb-lts.Need-is-below-requires (
   peek-second-reads.Learnt,
   from-slice-reads.Asked,
   from-slice-reads.Learnt,
-) (bb-at t) bb.Post bb-Inv-loop bb-μ-loop
-bb-is-below-requires t c κs =
+) (b-at t) b.Post b-Inv-loop b-μ-loop
+b-is-below-requires t c κs =
     search needs
 
 -- src/lib.rt:1448:9
-bb-operator-requires : (t : ℕ) → bb-lts.Need-operator-requires (
+b-operator-requires : (t : ℕ) → b-lts.Need-operator-requires (
   is-below-reads.Asked,
   is-below-reads.Learnt,
   operator-reads.Asked,
@@ -1133,12 +1133,12 @@ bb-operator-requires : (t : ℕ) → bb-lts.Need-operator-requires (
   peek-second-reads.Learnt,
   from-slice-reads.Asked,
   from-slice-reads.Learnt,
-) (bb-at t) bb.Post bb-Inv-loop bb-μ-loop
-bb-operator-requires t c κs =
+) (b-at t) b.Post b-Inv-loop b-μ-loop
+b-operator-requires t c κs =
     c .before .before .before .loop .inv .loop .ready
 
 -- src/lib.rt:1450:13
-bb-same-length : (t : ℕ) → bb-lts.Need-same-length (
+b-same-length : (t : ℕ) → b-lts.Need-same-length (
   is-below-reads.Asked,
   is-below-reads.Learnt,
   operator-reads.Asked,
@@ -1151,12 +1151,12 @@ bb-same-length : (t : ℕ) → bb-lts.Need-same-length (
   peek-second-reads.Learnt,
   from-slice-reads.Asked,
   from-slice-reads.Learnt,
-) (bb-at t) bb.Post bb-Inv-loop bb-μ-loop
-bb-same-length t c =
+) (b-at t) b.Post b-Inv-loop b-μ-loop
+b-same-length t c =
     c .before .before .before .before .operator .ensures .under 0 .len ∙ (c .before .before .before .before .before .before .before .before .loop .inv .loop .under 0 .len)
 
 -- src/lib.rt:1450:13
-bb-returns : (t : ℕ) → bb-lts.Need-returns (
+b-returns : (t : ℕ) → b-lts.Need-returns (
   is-below-reads.Asked,
   is-below-reads.Learnt,
   operator-reads.Asked,
@@ -1169,13 +1169,13 @@ bb-returns : (t : ℕ) → bb-lts.Need-returns (
   peek-second-reads.Learnt,
   from-slice-reads.Asked,
   from-slice-reads.Learnt,
-) (bb-at t) bb.Post bb-Inv-loop bb-μ-loop
+) (b-at t) b.Post b-Inv-loop b-μ-loop
 unfolding binary-body binary-turn
-bb-returns t c =
+b-returns t c =
     record { under = λ m. inv-end (c .before .before .before .before .before .before .before .before .loop .inv .loop .under _) (last-cut (if-no (sym (c .before .before .before .before .before .before .before .is-below .ensures) ∙ c .before .before .before .before .before .before .if1 .left) (cut (c .before .before .before .before .operator .ensures .under _) (c .if2 .taken))) (c .if2 .taken)) }
 
 -- src/lib.rt:1452:9
-bb-rd-requires : (t : ℕ) → bb-lts.Need-rd-requires (
+b-rd-requires : (t : ℕ) → b-lts.Need-rd-requires (
   is-below-reads.Asked,
   is-below-reads.Learnt,
   operator-reads.Asked,
@@ -1188,12 +1188,12 @@ bb-rd-requires : (t : ℕ) → bb-lts.Need-rd-requires (
   peek-second-reads.Learnt,
   from-slice-reads.Asked,
   from-slice-reads.Learnt,
-) (bb-at t) bb.Post bb-Inv-loop bb-μ-loop
-bb-rd-requires t c κs =
+) (b-at t) b.Post b-Inv-loop b-μ-loop
+b-rd-requires t c κs =
     (omega (arith, c .before .before .before .before .before .before .before .before .before .before .before .before .before .pre .0, c .before .before .before .before .before .operator .ensures .under 0 .left, c .before .before .before .before .before .before .before .before .before .loop .inv .loop .under 0 .left), (record { small = c .before .before .before .before .before .before .before .before .before .loop .inv .next .small }, c .before .before .before .before .before .operator .ensures .under 0 .ready (c .before .if2 .left)))
 
 -- src/lib.rt:1454:13
-bb-same-length-2 : (t : ℕ) → bb-lts.Need-same-length-2 (
+b-same-length-2 : (t : ℕ) → b-lts.Need-same-length-2 (
   is-below-reads.Asked,
   is-below-reads.Learnt,
   operator-reads.Asked,
@@ -1206,12 +1206,12 @@ bb-same-length-2 : (t : ℕ) → bb-lts.Need-same-length-2 (
   peek-second-reads.Learnt,
   from-slice-reads.Asked,
   from-slice-reads.Learnt,
-) (bb-at t) bb.Post bb-Inv-loop bb-μ-loop
-bb-same-length-2 t c =
+) (b-at t) b.Post b-Inv-loop b-μ-loop
+b-same-length-2 t c =
     c .before .before .before .before .rd .ensures .under 0 .len ∙ (c .before .before .before .before .before .before .before .before .before .before .operator .ensures .under 0 .len ∙ (c .before .before .before .before .before .before .before .before .before .before .before .before .before .before .loop .inv .loop .under 0 .len))
 
 -- src/lib.rt:1454:13
-bb-returns-2 : (t : ℕ) → bb-lts.Need-returns-2 (
+b-returns-2 : (t : ℕ) → b-lts.Need-returns-2 (
   is-below-reads.Asked,
   is-below-reads.Learnt,
   operator-reads.Asked,
@@ -1224,13 +1224,13 @@ bb-returns-2 : (t : ℕ) → bb-lts.Need-returns-2 (
   peek-second-reads.Learnt,
   from-slice-reads.Asked,
   from-slice-reads.Learnt,
-) (bb-at t) bb.Post bb-Inv-loop bb-μ-loop
+) (b-at t) b.Post b-Inv-loop b-μ-loop
 unfolding binary-body binary-turn
-bb-returns-2 t c =
+b-returns-2 t c =
     record { under = λ m. inv-end (c .before .before .before .before .before .before .before .before .before .before .before .before .before .before .loop .inv .loop .under _) (last-cut (if-no (sym (c .before .before .before .before .before .before .before .before .before .before .before .before .before .is-below .ensures) ∙ c .before .before .before .before .before .before .before .before .before .before .before .before .if1 .left) (both (c .before .before .before .before .before .before .before .before .before .before .operator .ensures .under _) (c .before .before .before .before .before .before .if2 .left) (cut (c .before .before .before .before .rd .ensures .under _) (c .if3 .taken)))) (c .if3 .taken)) }
 
 -- src/lib.rt:1456:45
-bb-peek-requires : (t : ℕ) → bb-lts.Need-peek-requires (
+b-peek-requires : (t : ℕ) → b-lts.Need-peek-requires (
   is-below-reads.Asked,
   is-below-reads.Learnt,
   operator-reads.Asked,
@@ -1243,12 +1243,12 @@ bb-peek-requires : (t : ℕ) → bb-lts.Need-peek-requires (
   peek-second-reads.Learnt,
   from-slice-reads.Asked,
   from-slice-reads.Learnt,
-) (bb-at t) bb.Post bb-Inv-loop bb-μ-loop
-bb-peek-requires t c κs =
+) (b-at t) b.Post b-Inv-loop b-μ-loop
+b-peek-requires t c κs =
     (c .before .before .before .before .rd .ensures .under 0 .ready (c .if3 .left)) .looks
 
 -- src/lib.rt:1456:60
-bb-peek-second-requires : (t : ℕ) → bb-lts.Need-peek-second-requires (
+b-peek-second-requires : (t : ℕ) → b-lts.Need-peek-second-requires (
   is-below-reads.Asked,
   is-below-reads.Learnt,
   operator-reads.Asked,
@@ -1261,12 +1261,12 @@ bb-peek-second-requires : (t : ℕ) → bb-lts.Need-peek-second-requires (
   peek-second-reads.Learnt,
   from-slice-reads.Asked,
   from-slice-reads.Learnt,
-) (bb-at t) bb.Post bb-Inv-loop bb-μ-loop
-bb-peek-second-requires t c κs =
+) (b-at t) b.Post b-Inv-loop b-μ-loop
+b-peek-second-requires t c κs =
     (c .before .before .before .before .before .rd .ensures .under 0 .ready (c .before .if3 .left)) .looks
 
 -- src/lib.rt:1456:9
-bb-from-slice-requires : (t : ℕ) → bb-lts.Need-from-slice-requires (
+b-from-slice-requires : (t : ℕ) → b-lts.Need-from-slice-requires (
   is-below-reads.Asked,
   is-below-reads.Learnt,
   operator-reads.Asked,
@@ -1279,12 +1279,12 @@ bb-from-slice-requires : (t : ℕ) → bb-lts.Need-from-slice-requires (
   peek-second-reads.Learnt,
   from-slice-reads.Asked,
   from-slice-reads.Learnt,
-) (bb-at t) bb.Post bb-Inv-loop bb-μ-loop
-bb-from-slice-requires t c κs =
+) (b-at t) b.Post b-Inv-loop b-μ-loop
+b-from-slice-requires t c κs =
     search needs
 
 -- src/lib.rt:1444:5
-bb-loop-less : (t : ℕ) → bb-lts.Need-loop-less (
+b-loop-less : (t : ℕ) → b-lts.Need-loop-less (
   is-below-reads.Asked,
   is-below-reads.Learnt,
   operator-reads.Asked,
@@ -1297,12 +1297,12 @@ bb-loop-less : (t : ℕ) → bb-lts.Need-loop-less (
   peek-second-reads.Learnt,
   from-slice-reads.Asked,
   from-slice-reads.Learnt,
-) (bb-at t) bb.Post bb-Inv-loop bb-μ-loop
-bb-loop-less t c =
+) (b-at t) b.Post b-Inv-loop b-μ-loop
+b-loop-less t c =
     burns (c .before .before .before .before .before .before .before .rd .ensures .under 0 .ready (c .before .before .before .if3 .left)) (and-on (operator-goes (c .before .before .before .before .before .before .before .before .before .before .before .before .before .before .before .before .before .before .before .before .before .args .least) (c .before .before .before .before .before .before .before .before .before .before .before .before .before .operator .ensures .under 0) (c .before .before .before .before .before .before .before .before .before .if2 .left) (c .before .before .before .before .before .before .before .before .before .before .before .before .before .before .before .before .before .loop .inv .next) (sym (c .before .before .before .before .before .before .before .before .before .before .before .before .before .before .before .before .is-below .ensures) ∙ c .before .before .before .before .before .before .before .before .before .before .before .before .before .before .before .if1 .left)) (c .before .before .before .before .before .before .before .rd .ensures .under 0) (c .before .before .before .if3 .left))
 
 -- src/lib.rt:1444:5
-bb-loop-again : (t : ℕ) → bb-lts.Need-loop-again (
+b-loop-again : (t : ℕ) → b-lts.Need-loop-again (
   is-below-reads.Asked,
   is-below-reads.Learnt,
   operator-reads.Asked,
@@ -1315,13 +1315,13 @@ bb-loop-again : (t : ℕ) → bb-lts.Need-loop-again (
   peek-second-reads.Learnt,
   from-slice-reads.Asked,
   from-slice-reads.Learnt,
-) (bb-at t) bb.Post bb-Inv-loop bb-μ-loop
+) (b-at t) b.Post b-Inv-loop b-μ-loop
 unfolding binary-body binary-turn
-bb-loop-again t c =
+b-loop-again t c =
     record { loop = record { ready = c .before .before .before .before .before .before .before .rd .ensures .under 0 .ready (c .before .before .before .if3 .left); under = λ m. inv-again (c .before .before .before .before .before .before .before .before .before .before .before .before .before .before .before .before .before .loop .inv .loop .under m) (if-no (sym (c .before .before .before .before .before .before .before .before .before .before .before .before .before .before .before .before .is-below .ensures) ∙ c .before .before .before .before .before .before .before .before .before .before .before .before .before .before .before .if1 .left) (both (c .before .before .before .before .before .before .before .before .before .before .before .before .before .operator .ensures .under _) (c .before .before .before .before .before .before .before .before .before .if2 .left) (both (c .before .before .before .before .before .before .before .rd .ensures .under _) (c .before .before .before .if3 .left) (ask-second-as (c .before .before .peek .ensures) (c .before .peek-second .ensures) (c .from-slice .ensures .is) (nothing (c .before .before .before .before .before .before .before .rd .ensures .under 0 .ready (c .before .before .before .if3 .left))))))) (c .before .before .before .if3 .left) (and-on (operator-goes (c .before .before .before .before .before .before .before .before .before .before .before .before .before .before .before .before .before .before .before .before .before .args .least) (c .before .before .before .before .before .before .before .before .before .before .before .before .before .operator .ensures .under 0) (c .before .before .before .before .before .before .before .before .before .if2 .left) (c .before .before .before .before .before .before .before .before .before .before .before .before .before .before .before .before .before .loop .inv .next) (sym (c .before .before .before .before .before .before .before .before .before .before .before .before .before .before .before .before .is-below .ensures) ∙ c .before .before .before .before .before .before .before .before .before .before .before .before .before .before .before .if1 .left)) (c .before .before .before .before .before .before .before .rd .ensures .under 0) (c .before .before .before .if3 .left)) }; next = looked (c .from-slice .ensures) (c .before .before .peek .ensures) (c .before .peek-second .ensures) }
 
 -- src/lib.rt:1461:9
-bb-same-length-3 : (t : ℕ) → bb-lts.Need-same-length-3 (
+b-same-length-3 : (t : ℕ) → b-lts.Need-same-length-3 (
   is-below-reads.Asked,
   is-below-reads.Learnt,
   operator-reads.Asked,
@@ -1334,12 +1334,12 @@ bb-same-length-3 : (t : ℕ) → bb-lts.Need-same-length-3 (
   peek-second-reads.Learnt,
   from-slice-reads.Asked,
   from-slice-reads.Learnt,
-) (bb-at t) bb.Post bb-Inv-loop bb-μ-loop
-bb-same-length-3 t c =
+) (b-at t) b.Post b-Inv-loop b-μ-loop
+b-same-length-3 t c =
     c .before .before .before .loop .inv .loop .under 0 .len
 
 -- src/lib.rt:1461:9
-bb-returns-3 : (t : ℕ) → bb-lts.Need-returns-3 (
+b-returns-3 : (t : ℕ) → b-lts.Need-returns-3 (
   is-below-reads.Asked,
   is-below-reads.Learnt,
   operator-reads.Asked,
@@ -1352,13 +1352,13 @@ bb-returns-3 : (t : ℕ) → bb-lts.Need-returns-3 (
   peek-second-reads.Learnt,
   from-slice-reads.Asked,
   from-slice-reads.Learnt,
-) (bb-at t) bb.Post bb-Inv-loop bb-μ-loop
+) (b-at t) b.Post b-Inv-loop b-μ-loop
 unfolding binary-body binary-turn
-bb-returns-3 t c =
+b-returns-3 t c =
     record { under = λ m. inv-end (c .before .before .before .loop .inv .loop .under _) (last (if-yes (sym (c .before .before .is-below .ensures) ∙ c .before .if1 .taken) (answered-as (ap (λ (x : Bool). inr x) (c .if4 .taken)) (c .before .before .before .loop .inv .loop .ready))) (c .before .before .before .loop .inv .loop .ready .going)) }
 
 -- src/lib.rt:1428:1
-bb-same-length-4 : (t : ℕ) → bb-lts.Need-same-length-4 (
+b-same-length-4 : (t : ℕ) → b-lts.Need-same-length-4 (
   is-below-reads.Asked,
   is-below-reads.Learnt,
   operator-reads.Asked,
@@ -1371,12 +1371,12 @@ bb-same-length-4 : (t : ℕ) → bb-lts.Need-same-length-4 (
   peek-second-reads.Learnt,
   from-slice-reads.Asked,
   from-slice-reads.Learnt,
-) (bb-at t) bb.Post bb-Inv-loop bb-μ-loop
-bb-same-length-4 t c =
+) (b-at t) b.Post b-Inv-loop b-μ-loop
+b-same-length-4 t c =
     c .before .before .before .loop .inv .loop .under 0 .len
 
 -- src/lib.rt:1428:1
-bb-returns-4 : (t : ℕ) → bb-lts.Need-returns-4 (
+b-returns-4 : (t : ℕ) → b-lts.Need-returns-4 (
   is-below-reads.Asked,
   is-below-reads.Learnt,
   operator-reads.Asked,
@@ -1389,17 +1389,17 @@ bb-returns-4 : (t : ℕ) → bb-lts.Need-returns-4 (
   peek-second-reads.Learnt,
   from-slice-reads.Asked,
   from-slice-reads.Learnt,
-) (bb-at t) bb.Post bb-Inv-loop bb-μ-loop
+) (b-at t) b.Post b-Inv-loop b-μ-loop
 unfolding binary-body binary-turn
-bb-returns-4 t c =
+b-returns-4 t c =
     record { under = λ m. inv-end (c .before .before .before .loop .inv .loop .under _) (last (if-yes (sym (c .before .before .is-below .ensures) ∙ c .before .if1 .taken) (answered-as (ap (λ (x : Bool). inr x) (c .if4 .left)) (c .before .before .before .loop .inv .loop .ready))) (c .before .before .before .loop .inv .loop .ready .going)) }
 
 -- src/lib.rt:1419:9
 bi-refuse-requires : (t : ℕ) → bi-lts.Need-refuse-requires (
   refuse-reads.Asked,
   refuse-reads.Learnt,
-  bb-below t,
-  bb.Post,
+  b-below t,
+  b.Post,
 ) (bi-at t) bi.Post
 bi-refuse-requires t c κs =
     here-few (c .before .before .before .before .pre .1 .1)
@@ -1408,8 +1408,8 @@ bi-refuse-requires t c κs =
 bi-returns : (t : ℕ) → bi-lts.Need-returns (
   refuse-reads.Asked,
   refuse-reads.Learnt,
-  bb-below t,
-  bb.Post,
+  b-below t,
+  b.Post,
 ) (bi-at t) bi.Post
 unfolding expr-binary grammar
 bi-returns t c =
@@ -1419,42 +1419,42 @@ bi-returns t c =
 bi-sub-t : (t : ℕ) → bi-lts.Need-sub-t (
   refuse-reads.Asked,
   refuse-reads.Learnt,
-  bb-below t,
-  bb.Post,
+  b-below t,
+  b.Post,
 ) (bi-at t) bi.Post
 bi-sub-t t c =
     search needs
 
 -- src/lib.rt:1423:5
-bi-bb-requires : (t : ℕ) → bi-lts.Need-bb-requires (
+bi-b-requires : (t : ℕ) → bi-lts.Need-b-requires (
   refuse-reads.Asked,
   refuse-reads.Learnt,
-  bb-below t,
-  bb.Post,
+  b-below t,
+  b.Post,
 ) (bi-at t) bi.Post
-bi-bb-requires t c κs =
+bi-b-requires t c κs =
     (omega (arith, c .before .before .before .before .before .pre .0, c .before .if1 .left), (record { is = c .before .before .before .before .before .pre .1 .0 .is; small = c .before .before .before .before .before .pre .1 .0 .small }, deep (c .before .before .before .before .before .pre .1 .1)))
 
 -- src/lib.rt:1404:1
 bi-same-length : (t : ℕ) → bi-lts.Need-same-length (
   refuse-reads.Asked,
   refuse-reads.Learnt,
-  bb-below t,
-  bb.Post,
+  b-below t,
+  b.Post,
 ) (bi-at t) bi.Post
 bi-same-length t c =
-    c .before .before .bb .ensures .under 0 .len
+    c .before .before .b .ensures .under 0 .len
 
 -- src/lib.rt:1404:1
 bi-returns-2 : (t : ℕ) → bi-lts.Need-returns-2 (
   refuse-reads.Asked,
   refuse-reads.Learnt,
-  bb-below t,
-  bb.Post,
+  b-below t,
+  b.Post,
 ) (bi-at t) bi.Post
 unfolding expr-binary grammar
 bi-returns-2 t c =
-    record { under = λ m. entered-bool refl (c .before .before .before .before .if1 .left) (c .before .before .bb .ensures .under _) }
+    record { under = λ m. entered-bool refl (c .before .before .before .before .if1 .left) (c .before .before .b .ensures .under _) }
 
 -- src/lib.rt:1606:9
 bl-flush-ws-requires : (t : ℕ) → bl-lts.Need-flush-ws-requires (
@@ -2321,8 +2321,8 @@ ch-μ-loop c kind kinds lens table₀ t₀ last₀ any₀ table t last any =
 
 -- src/lib.rt:810:5
 ch-loop-holds : (t : ℕ) → ch-lts.Need-loop-holds (
-  cs-below t,
-  cs.Post,
+  d-below t,
+  d.Post,
   close-at-reads.Asked,
   close-at-reads.Learnt,
 ) (ch-at t) ch.Post ch-Inv-loop ch-μ-loop
@@ -2331,129 +2331,129 @@ ch-loop-holds t c =
     record { ready = c .before .before .before .pre .1 .1; under = λ m. inv-start }
 
 -- src/lib.rt:811:9
-ch-cs-requires : (t : ℕ) → ch-lts.Need-cs-requires (
-  cs-below t,
-  cs.Post,
+ch-d-requires : (t : ℕ) → ch-lts.Need-d-requires (
+  d-below t,
+  d.Post,
   close-at-reads.Asked,
   close-at-reads.Learnt,
 ) (ch-at t) ch.Post ch-Inv-loop ch-μ-loop
-ch-cs-requires t c κs =
+ch-d-requires t c κs =
     (omega (arith, c .before .before .before .before .before .pre .0, c .before .loop .inv .under 0 .left), c .before .loop .inv .ready)
 
 -- src/lib.rt:813:13
 ch-same-length : (t : ℕ) → ch-lts.Need-same-length (
-  cs-below t,
-  cs.Post,
+  d-below t,
+  d.Post,
   close-at-reads.Asked,
   close-at-reads.Learnt,
 ) (ch-at t) ch.Post ch-Inv-loop ch-μ-loop
 ch-same-length t c =
-    c .before .before .before .before .cs .ensures .under 0 .len ∙ (c .before .before .before .before .before .before .loop .inv .under 0 .len)
+    c .before .before .before .before .d .ensures .under 0 .len ∙ (c .before .before .before .before .before .before .loop .inv .under 0 .len)
 
 -- src/lib.rt:813:13
 ch-returns : (t : ℕ) → ch-lts.Need-returns (
-  cs-below t,
-  cs.Post,
+  d-below t,
+  d.Post,
   close-at-reads.Asked,
   close-at-reads.Learnt,
 ) (ch-at t) ch.Post ch-Inv-loop ch-μ-loop
 unfolding expr-chain chain-turn
 ch-returns t c =
-    cut {a = (0, false)} (inv-end (c .before .before .before .before .before .before .loop .inv .under _) (last-cut (cut (c .before .before .before .before .cs .ensures .under _) (c .if1 .taken)) (c .if1 .taken))) (c .if1 .taken)
+    cut {a = (0, false)} (inv-end (c .before .before .before .before .before .before .loop .inv .under _) (last-cut (cut (c .before .before .before .before .d .ensures .under _) (c .if1 .taken)) (c .if1 .taken))) (c .if1 .taken)
 
 -- src/lib.rt:810:5
 ch-loop-less : (t : ℕ) → ch-lts.Need-loop-less (
-  cs-below t,
-  cs.Post,
+  d-below t,
+  d.Post,
   close-at-reads.Asked,
   close-at-reads.Learnt,
 ) (ch-at t) ch.Post ch-Inv-loop ch-μ-loop
 ch-loop-less t c =
-    burns (c .before .before .before .before .before .cs .ensures .under 0 .ready (c .before .if1 .left)) (chain-goes (c .before .before .before .before .before .before .before .loop .last) (c .before .before .before .before .before .cs .ensures .under 0) (c .before .if1 .left) (ne-eqb _ _ (c .if2 .left)))
+    burns (c .before .before .before .before .before .d .ensures .under 0 .ready (c .before .if1 .left)) (chain-goes (c .before .before .before .before .before .before .before .loop .last) (c .before .before .before .before .before .d .ensures .under 0) (c .before .if1 .left) (ne-eqb _ _ (c .if2 .left)))
 
 -- src/lib.rt:810:5
 ch-loop-again : (t : ℕ) → ch-lts.Need-loop-again (
-  cs-below t,
-  cs.Post,
+  d-below t,
+  d.Post,
   close-at-reads.Asked,
   close-at-reads.Learnt,
 ) (ch-at t) ch.Post ch-Inv-loop ch-μ-loop
 unfolding expr-chain chain-turn
 ch-loop-again t c =
-    record { ready = c .before .before .before .before .before .cs .ensures .under 0 .ready (c .before .if1 .left); under = λ m. inv-again (c .before .before .before .before .before .before .before .loop .inv .under m) (both (c .before .before .before .before .before .cs .ensures .under _) (c .before .if1 .left) (if-no (ne-eqb _ _ (c .if2 .left)) (nothing (c .before .before .before .before .before .cs .ensures .under 0 .ready (c .before .if1 .left))))) (c .before .if1 .left) (chain-goes (c .before .before .before .before .before .before .before .loop .last) (c .before .before .before .before .before .cs .ensures .under 0) (c .before .if1 .left) (ne-eqb _ _ (c .if2 .left))) }
+    record { ready = c .before .before .before .before .before .d .ensures .under 0 .ready (c .before .if1 .left); under = λ m. inv-again (c .before .before .before .before .before .before .before .loop .inv .under m) (both (c .before .before .before .before .before .d .ensures .under _) (c .before .if1 .left) (if-no (ne-eqb _ _ (c .if2 .left)) (nothing (c .before .before .before .before .before .d .ensures .under 0 .ready (c .before .if1 .left))))) (c .before .if1 .left) (chain-goes (c .before .before .before .before .before .before .before .loop .last) (c .before .before .before .before .before .d .ensures .under 0) (c .before .if1 .left) (ne-eqb _ _ (c .if2 .left))) }
 
 -- src/lib.rt:823:9
 ch-close-at-requires : (t : ℕ) → ch-lts.Need-close-at-requires (
-  cs-below t,
-  cs.Post,
+  d-below t,
+  d.Post,
   close-at-reads.Asked,
   close-at-reads.Learnt,
 ) (ch-at t) ch.Post ch-Inv-loop ch-μ-loop
 ch-close-at-requires t c κs =
-    (step-marked (c .before .before .before .before .before .before .before .cs .ensures .under _) (c .before .before .before .if1 .left) (c .before .before .before .before .before .before .before .before .before .loop .inv .under _ .marked (c .before .before .before .before .before .before .before .before .before .before .before .before .before .pre .1 .0)), c .before .before .before .before .before .before .before .cs .ensures .under 0 .ready (c .before .before .before .if1 .left))
+    (step-marked (c .before .before .before .before .before .before .before .d .ensures .under _) (c .before .before .before .if1 .left) (c .before .before .before .before .before .before .before .before .before .loop .inv .under _ .marked (c .before .before .before .before .before .before .before .before .before .before .before .before .before .pre .1 .0)), c .before .before .before .before .before .before .before .d .ensures .under 0 .ready (c .before .before .before .if1 .left))
 
 -- src/lib.rt:825:13
 ch-same-length-2 : (t : ℕ) → ch-lts.Need-same-length-2 (
-  cs-below t,
-  cs.Post,
+  d-below t,
+  d.Post,
   close-at-reads.Asked,
   close-at-reads.Learnt,
 ) (ch-at t) ch.Post ch-Inv-loop ch-μ-loop
 ch-same-length-2 t c =
-    c .before .before .before .before .close-at .ensures .len ∙ (c .before .before .before .before .before .before .before .before .before .before .before .before .cs .ensures .under 0 .len ∙ (c .before .before .before .before .before .before .before .before .before .before .before .before .before .before .loop .inv .under 0 .len))
+    c .before .before .before .before .close-at .ensures .len ∙ (c .before .before .before .before .before .before .before .before .before .before .before .before .d .ensures .under 0 .len ∙ (c .before .before .before .before .before .before .before .before .before .before .before .before .before .before .loop .inv .under 0 .len))
 
 -- src/lib.rt:825:13
 ch-returns-2 : (t : ℕ) → ch-lts.Need-returns-2 (
-  cs-below t,
-  cs.Post,
+  d-below t,
+  d.Post,
   close-at-reads.Asked,
   close-at-reads.Learnt,
 ) (ch-at t) ch.Post ch-Inv-loop ch-μ-loop
 unfolding expr-chain chain-turn
 ch-returns-2 t c =
-    both (inv-end (c .before .before .before .before .before .before .before .before .before .before .before .before .before .before .loop .inv .under _) (last (both (c .before .before .before .before .before .before .before .before .before .before .before .before .cs .ensures .under _) (c .before .before .before .before .before .before .before .before .if1 .left) (if-yes (eq-eqb _ _ (c .before .before .before .before .before .before .before .if2 .taken)) (nothing (c .before .before .before .before .before .before .before .before .before .before .before .before .cs .ensures .under 0 .ready (c .before .before .before .before .before .before .before .before .if1 .left))))) (c .before .before .before .before .before .before .before .before .before .before .before .before .cs .ensures .under 0 .ready (c .before .before .before .before .before .before .before .before .if1 .left) .going))) (c .before .before .before .before .before .before .before .before .before .before .before .before .cs .ensures .under 0 .ready (c .before .before .before .before .before .before .before .before .if1 .left) .going) (cut (if-yes (c .before .before .before .before .before .before .if3 .taken) (refusal (c .before .before .before .before .close-at .ensures) (c .if4 .taken))) (c .if4 .taken))
+    both (inv-end (c .before .before .before .before .before .before .before .before .before .before .before .before .before .before .loop .inv .under _) (last (both (c .before .before .before .before .before .before .before .before .before .before .before .before .d .ensures .under _) (c .before .before .before .before .before .before .before .before .if1 .left) (if-yes (eq-eqb _ _ (c .before .before .before .before .before .before .before .if2 .taken)) (nothing (c .before .before .before .before .before .before .before .before .before .before .before .before .d .ensures .under 0 .ready (c .before .before .before .before .before .before .before .before .if1 .left))))) (c .before .before .before .before .before .before .before .before .before .before .before .before .d .ensures .under 0 .ready (c .before .before .before .before .before .before .before .before .if1 .left) .going))) (c .before .before .before .before .before .before .before .before .before .before .before .before .d .ensures .under 0 .ready (c .before .before .before .before .before .before .before .before .if1 .left) .going) (cut (if-yes (c .before .before .before .before .before .before .if3 .taken) (refusal (c .before .before .before .before .close-at .ensures) (c .if4 .taken))) (c .if4 .taken))
 
 -- src/lib.rt:828:9
 ch-same-length-3 : (t : ℕ) → ch-lts.Need-same-length-3 (
-  cs-below t,
-  cs.Post,
+  d-below t,
+  d.Post,
   close-at-reads.Asked,
   close-at-reads.Learnt,
 ) (ch-at t) ch.Post ch-Inv-loop ch-μ-loop
 ch-same-length-3 t c =
-    c .before .before .before .before .close-at .ensures .len ∙ (c .before .before .before .before .before .before .before .before .before .before .before .before .cs .ensures .under 0 .len ∙ (c .before .before .before .before .before .before .before .before .before .before .before .before .before .before .loop .inv .under 0 .len))
+    c .before .before .before .before .close-at .ensures .len ∙ (c .before .before .before .before .before .before .before .before .before .before .before .before .d .ensures .under 0 .len ∙ (c .before .before .before .before .before .before .before .before .before .before .before .before .before .before .loop .inv .under 0 .len))
 
 -- src/lib.rt:828:9
 ch-returns-3 : (t : ℕ) → ch-lts.Need-returns-3 (
-  cs-below t,
-  cs.Post,
+  d-below t,
+  d.Post,
   close-at-reads.Asked,
   close-at-reads.Learnt,
 ) (ch-at t) ch.Post ch-Inv-loop ch-μ-loop
 unfolding expr-chain chain-turn
 ch-returns-3 t c =
-    both (inv-end (c .before .before .before .before .before .before .before .before .before .before .before .before .before .before .loop .inv .under _) (last (both (c .before .before .before .before .before .before .before .before .before .before .before .before .cs .ensures .under _) (c .before .before .before .before .before .before .before .before .if1 .left) (if-yes (eq-eqb _ _ (c .before .before .before .before .before .before .before .if2 .taken)) (nothing (c .before .before .before .before .before .before .before .before .before .before .before .before .cs .ensures .under 0 .ready (c .before .before .before .before .before .before .before .before .if1 .left))))) (c .before .before .before .before .before .before .before .before .before .before .before .before .cs .ensures .under 0 .ready (c .before .before .before .before .before .before .before .before .if1 .left) .going))) (c .before .before .before .before .before .before .before .before .before .before .before .before .cs .ensures .under 0 .ready (c .before .before .before .before .before .before .before .before .if1 .left) .going) (both (if-yes (c .before .before .before .before .before .before .if3 .taken) (c .before .before .before .before .close-at .ensures)) (c .if4 .left) (answered (c .before .before .before .before .close-at .ensures .ready (c .if4 .left))))
+    both (inv-end (c .before .before .before .before .before .before .before .before .before .before .before .before .before .before .loop .inv .under _) (last (both (c .before .before .before .before .before .before .before .before .before .before .before .before .d .ensures .under _) (c .before .before .before .before .before .before .before .before .if1 .left) (if-yes (eq-eqb _ _ (c .before .before .before .before .before .before .before .if2 .taken)) (nothing (c .before .before .before .before .before .before .before .before .before .before .before .before .d .ensures .under 0 .ready (c .before .before .before .before .before .before .before .before .if1 .left))))) (c .before .before .before .before .before .before .before .before .before .before .before .before .d .ensures .under 0 .ready (c .before .before .before .before .before .before .before .before .if1 .left) .going))) (c .before .before .before .before .before .before .before .before .before .before .before .before .d .ensures .under 0 .ready (c .before .before .before .before .before .before .before .before .if1 .left) .going) (both (if-yes (c .before .before .before .before .before .before .if3 .taken) (c .before .before .before .before .close-at .ensures)) (c .if4 .left) (answered (c .before .before .before .before .close-at .ensures .ready (c .if4 .left))))
 
 -- src/lib.rt:803:1
 ch-same-length-4 : (t : ℕ) → ch-lts.Need-same-length-4 (
-  cs-below t,
-  cs.Post,
+  d-below t,
+  d.Post,
   close-at-reads.Asked,
   close-at-reads.Learnt,
 ) (ch-at t) ch.Post ch-Inv-loop ch-μ-loop
 ch-same-length-4 t c =
-    c .before .before .before .before .before .before .cs .ensures .under 0 .len ∙ (c .before .before .before .before .before .before .before .before .loop .inv .under 0 .len)
+    c .before .before .before .before .before .before .d .ensures .under 0 .len ∙ (c .before .before .before .before .before .before .before .before .loop .inv .under 0 .len)
 
 -- src/lib.rt:803:1
 ch-returns-4 : (t : ℕ) → ch-lts.Need-returns-4 (
-  cs-below t,
-  cs.Post,
+  d-below t,
+  d.Post,
   close-at-reads.Asked,
   close-at-reads.Learnt,
 ) (ch-at t) ch.Post ch-Inv-loop ch-μ-loop
 unfolding expr-chain chain-turn
 ch-returns-4 t c =
-    both (inv-end (c .before .before .before .before .before .before .before .before .loop .inv .under _) (last (both (c .before .before .before .before .before .before .cs .ensures .under _) (c .before .before .if1 .left) (if-yes (eq-eqb _ _ (c .before .if2 .taken)) (nothing (c .before .before .before .before .before .before .cs .ensures .under 0 .ready (c .before .before .if1 .left))))) (c .before .before .before .before .before .before .cs .ensures .under 0 .ready (c .before .before .if1 .left) .going))) (c .before .before .before .before .before .before .cs .ensures .under 0 .ready (c .before .before .if1 .left) .going) (both (if-no (c .if3 .left) (nothing (c .before .before .before .before .before .before .cs .ensures .under 0 .ready (c .before .before .if1 .left)))) (c .before .before .before .before .before .before .cs .ensures .under 0 .ready (c .before .before .if1 .left) .going) (answered (c .before .before .before .before .before .before .cs .ensures .under 0 .ready (c .before .before .if1 .left))))
+    both (inv-end (c .before .before .before .before .before .before .before .before .loop .inv .under _) (last (both (c .before .before .before .before .before .before .d .ensures .under _) (c .before .before .if1 .left) (if-yes (eq-eqb _ _ (c .before .if2 .taken)) (nothing (c .before .before .before .before .before .before .d .ensures .under 0 .ready (c .before .before .if1 .left))))) (c .before .before .before .before .before .before .d .ensures .under 0 .ready (c .before .before .if1 .left) .going))) (c .before .before .before .before .before .before .d .ensures .under 0 .ready (c .before .before .if1 .left) .going) (both (if-no (c .if3 .left) (nothing (c .before .before .before .before .before .before .d .ensures .under 0 .ready (c .before .before .if1 .left)))) (c .before .before .before .before .before .before .d .ensures .under 0 .ready (c .before .before .if1 .left) .going) (answered (c .before .before .before .before .before .before .d .ensures .under 0 .ready (c .before .before .if1 .left))))
 
 -- src/lib.rt:1183:9
 ci-bump-if-requires : (t : ℕ) → ci-lts.Need-bump-if-requires (
@@ -2625,7 +2625,7 @@ co-returns-2 t c =
     record { under = λ m. ask (c .before .before .before .before .before .peek .ensures) (if-no (ne-eqb _ _ (c .before .before .before .before .if1 .left)) (c .before .before .ex .ensures .under _)) }
 
 -- src/lib.rt:838:9
-cs-flush-ws-requires : (t : ℕ) → cs-lts.Need-flush-ws-requires (
+d-flush-ws-requires : (t : ℕ) → d-lts.Need-flush-ws-requires (
   flush-ws-reads.Asked,
   flush-ws-reads.Learnt,
   peek-reads.Asked,
@@ -2634,12 +2634,12 @@ cs-flush-ws-requires : (t : ℕ) → cs-lts.Need-flush-ws-requires (
   li.Post,
   finish-reads.Asked,
   finish-reads.Learnt,
-) (cs-at t) cs.Post
-cs-flush-ws-requires t c κs =
+) (d-at t) d.Post
+d-flush-ws-requires t c κs =
     c .before .before .before .before .pre .1
 
 -- src/lib.rt:840:9
-cs-same-length : (t : ℕ) → cs-lts.Need-same-length (
+d-same-length : (t : ℕ) → d-lts.Need-same-length (
   flush-ws-reads.Asked,
   flush-ws-reads.Learnt,
   peek-reads.Asked,
@@ -2648,12 +2648,12 @@ cs-same-length : (t : ℕ) → cs-lts.Need-same-length (
   li.Post,
   finish-reads.Asked,
   finish-reads.Learnt,
-) (cs-at t) cs.Post
-cs-same-length t c =
+) (d-at t) d.Post
+d-same-length t c =
     c .before .before .before .before .flush-ws .ensures .under 0 .len
 
 -- src/lib.rt:840:9
-cs-returns : (t : ℕ) → cs-lts.Need-returns (
+d-returns : (t : ℕ) → d-lts.Need-returns (
   flush-ws-reads.Asked,
   flush-ws-reads.Learnt,
   peek-reads.Asked,
@@ -2662,13 +2662,13 @@ cs-returns : (t : ℕ) → cs-lts.Need-returns (
   li.Post,
   finish-reads.Asked,
   finish-reads.Learnt,
-) (cs-at t) cs.Post
+) (d-at t) d.Post
 unfolding chain-step
-cs-returns t c =
+d-returns t c =
     unscoped (c .before .before .before .before .flush-ws .ensures) (c .if1 .taken)
 
 -- src/lib.rt:843:9
-cs-peek-requires : (t : ℕ) → cs-lts.Need-peek-requires (
+d-peek-requires : (t : ℕ) → d-lts.Need-peek-requires (
   flush-ws-reads.Asked,
   flush-ws-reads.Learnt,
   peek-reads.Asked,
@@ -2677,12 +2677,12 @@ cs-peek-requires : (t : ℕ) → cs-lts.Need-peek-requires (
   li.Post,
   finish-reads.Asked,
   finish-reads.Learnt,
-) (cs-at t) cs.Post
-cs-peek-requires t c κs =
+) (d-at t) d.Post
+d-peek-requires t c κs =
     (c .before .before .before .before .flush-ws .ensures .under 0 .ready (c .if1 .left)) .looks
 
 -- src/lib.rt:844:5
-cs-li-requires : (t : ℕ) → cs-lts.Need-li-requires (
+d-li-requires : (t : ℕ) → d-lts.Need-li-requires (
   flush-ws-reads.Asked,
   flush-ws-reads.Learnt,
   peek-reads.Asked,
@@ -2691,12 +2691,12 @@ cs-li-requires : (t : ℕ) → cs-lts.Need-li-requires (
   li.Post,
   finish-reads.Asked,
   finish-reads.Learnt,
-) (cs-at t) cs.Post
-cs-li-requires t c κs =
+) (d-at t) d.Post
+d-li-requires t c κs =
     (omega (arith, c .before .before .before .before .before .before .before .before .before .before .before .pre .0, c .before .before .before .before .before .before .flush-ws .ensures .under 0 .left), c .before .before .before .before .before .before .flush-ws .ensures .under 0 .ready (c .before .before .if1 .left))
 
 -- src/lib.rt:846:9
-cs-same-length-2 : (t : ℕ) → cs-lts.Need-same-length-2 (
+d-same-length-2 : (t : ℕ) → d-lts.Need-same-length-2 (
   flush-ws-reads.Asked,
   flush-ws-reads.Learnt,
   peek-reads.Asked,
@@ -2705,12 +2705,12 @@ cs-same-length-2 : (t : ℕ) → cs-lts.Need-same-length-2 (
   li.Post,
   finish-reads.Asked,
   finish-reads.Learnt,
-) (cs-at t) cs.Post
-cs-same-length-2 t c =
+) (d-at t) d.Post
+d-same-length-2 t c =
     c .before .before .before .before .li .ensures .under 0 .len ∙ (c .before .before .before .before .before .before .before .before .before .before .before .flush-ws .ensures .under 0 .len)
 
 -- src/lib.rt:846:9
-cs-returns-2 : (t : ℕ) → cs-lts.Need-returns-2 (
+d-returns-2 : (t : ℕ) → d-lts.Need-returns-2 (
   flush-ws-reads.Asked,
   flush-ws-reads.Learnt,
   peek-reads.Asked,
@@ -2719,13 +2719,13 @@ cs-returns-2 : (t : ℕ) → cs-lts.Need-returns-2 (
   li.Post,
   finish-reads.Asked,
   finish-reads.Learnt,
-) (cs-at t) cs.Post
+) (d-at t) d.Post
 unfolding chain-step
-cs-returns-2 t c =
+d-returns-2 t c =
     scoped (c .before .before .before .before .before .before .before .before .before .before .before .flush-ws .ensures) (c .before .before .before .before .before .before .before .if1 .left) (look (c .before .before .before .before .before .before .peek .ensures) (cut (c .before .before .before .before .li .ensures .under _) (c .if2 .taken)))
 
 -- src/lib.rt:851:9
-cs-same-length-3 : (t : ℕ) → cs-lts.Need-same-length-3 (
+d-same-length-3 : (t : ℕ) → d-lts.Need-same-length-3 (
   flush-ws-reads.Asked,
   flush-ws-reads.Learnt,
   peek-reads.Asked,
@@ -2734,12 +2734,12 @@ cs-same-length-3 : (t : ℕ) → cs-lts.Need-same-length-3 (
   li.Post,
   finish-reads.Asked,
   finish-reads.Learnt,
-) (cs-at t) cs.Post
-cs-same-length-3 t c =
+) (d-at t) d.Post
+d-same-length-3 t c =
     c .before .before .before .before .before .li .ensures .under 0 .len ∙ (c .before .before .before .before .before .before .before .before .before .before .before .before .flush-ws .ensures .under 0 .len)
 
 -- src/lib.rt:851:9
-cs-returns-3 : (t : ℕ) → cs-lts.Need-returns-3 (
+d-returns-3 : (t : ℕ) → d-lts.Need-returns-3 (
   flush-ws-reads.Asked,
   flush-ws-reads.Learnt,
   peek-reads.Asked,
@@ -2748,13 +2748,13 @@ cs-returns-3 : (t : ℕ) → cs-lts.Need-returns-3 (
   li.Post,
   finish-reads.Asked,
   finish-reads.Learnt,
-) (cs-at t) cs.Post
+) (d-at t) d.Post
 unfolding chain-step
-cs-returns-3 t c =
+d-returns-3 t c =
     scoped (c .before .before .before .before .before .before .before .before .before .before .before .before .flush-ws .ensures) (c .before .before .before .before .before .before .before .before .if1 .left) (look (c .before .before .before .before .before .before .before .peek .ensures) (both (c .before .before .before .before .before .li .ensures .under _) (c .before .if2 .left) (if-yes (eq-eqb _ _ (c .if3 .taken)) (answered (c .before .before .before .before .before .li .ensures .under 0 .ready (c .before .if2 .left))))))
 
 -- src/lib.rt:853:5
-cs-finish-requires : (t : ℕ) → cs-lts.Need-finish-requires (
+d-finish-requires : (t : ℕ) → d-lts.Need-finish-requires (
   flush-ws-reads.Asked,
   flush-ws-reads.Learnt,
   peek-reads.Asked,
@@ -2763,12 +2763,12 @@ cs-finish-requires : (t : ℕ) → cs-lts.Need-finish-requires (
   li.Post,
   finish-reads.Asked,
   finish-reads.Learnt,
-) (cs-at t) cs.Post
-cs-finish-requires t c κs =
+) (d-at t) d.Post
+d-finish-requires t c κs =
     (step-marked (c .before .before .before .before .before .before .li .ensures .under _) (c .before .before .if2 .left) (marked-now), c .before .before .before .before .before .before .li .ensures .under 0 .ready (c .before .before .if2 .left))
 
 -- src/lib.rt:834:1
-cs-same-length-4 : (t : ℕ) → cs-lts.Need-same-length-4 (
+d-same-length-4 : (t : ℕ) → d-lts.Need-same-length-4 (
   flush-ws-reads.Asked,
   flush-ws-reads.Learnt,
   peek-reads.Asked,
@@ -2777,12 +2777,12 @@ cs-same-length-4 : (t : ℕ) → cs-lts.Need-same-length-4 (
   li.Post,
   finish-reads.Asked,
   finish-reads.Learnt,
-) (cs-at t) cs.Post
-cs-same-length-4 t c =
+) (d-at t) d.Post
+d-same-length-4 t c =
     c .before .before .finish .ensures .len ∙ (c .before .before .before .before .before .before .before .before .before .li .ensures .under 0 .len ∙ (c .before .before .before .before .before .before .before .before .before .before .before .before .before .before .before .before .flush-ws .ensures .under 0 .len))
 
 -- src/lib.rt:834:1
-cs-returns-4 : (t : ℕ) → cs-lts.Need-returns-4 (
+d-returns-4 : (t : ℕ) → d-lts.Need-returns-4 (
   flush-ws-reads.Asked,
   flush-ws-reads.Learnt,
   peek-reads.Asked,
@@ -2791,92 +2791,92 @@ cs-returns-4 : (t : ℕ) → cs-lts.Need-returns-4 (
   li.Post,
   finish-reads.Asked,
   finish-reads.Learnt,
-) (cs-at t) cs.Post
+) (d-at t) d.Post
 unfolding chain-step
-cs-returns-4 t c =
+d-returns-4 t c =
     scoped (c .before .before .before .before .before .before .before .before .before .before .before .before .before .before .before .before .flush-ws .ensures) (c .before .before .before .before .before .before .before .before .before .before .before .before .if1 .left) (look (c .before .before .before .before .before .before .before .before .before .before .before .peek .ensures) (both (c .before .before .before .before .before .before .before .before .before .li .ensures .under _) (c .before .before .before .before .before .if2 .left) (if-no (ne-eqb _ _ (c .before .before .before .before .if3 .left)) (c .before .before .finish .ensures))))
 
 -- src/lib.rt:1054:9
-ea-bump-if-requires : (t : ℕ) → ea-lts.Need-bump-if-requires (
+e-bump-if-requires : (t : ℕ) → e-lts.Need-bump-if-requires (
   bump-if-reads.Asked,
   bump-if-reads.Learnt,
   ex-below t,
   ex.Post,
-) (ea-at t) ea.Post
-ea-bump-if-requires t c κs =
+) (e-at t) e.Post
+e-bump-if-requires t c κs =
     c .before .before .before .before .pre .1
 
 -- src/lib.rt:1056:9
-ea-same-length : (t : ℕ) → ea-lts.Need-same-length (
+e-same-length : (t : ℕ) → e-lts.Need-same-length (
   bump-if-reads.Asked,
   bump-if-reads.Learnt,
   ex-below t,
   ex.Post,
-) (ea-at t) ea.Post
-ea-same-length t c =
+) (e-at t) e.Post
+e-same-length t c =
     c .before .before .before .before .bump-if .ensures .under 0 .len
 
 -- src/lib.rt:1056:9
-ea-returns : (t : ℕ) → ea-lts.Need-returns (
+e-returns : (t : ℕ) → e-lts.Need-returns (
   bump-if-reads.Asked,
   bump-if-reads.Learnt,
   ex-below t,
   ex.Post,
-) (ea-at t) ea.Post
+) (e-at t) e.Post
 unfolding expr-after
-ea-returns t c =
+e-returns t c =
     record { under = λ m. cut (c .before .before .before .before .bump-if .ensures .under _) (c .if1 .taken) }
 
 -- src/lib.rt:1059:9
-ea-ex-requires : (t : ℕ) → ea-lts.Need-ex-requires (
+e-ex-requires : (t : ℕ) → e-lts.Need-ex-requires (
   bump-if-reads.Asked,
   bump-if-reads.Learnt,
   ex-below t,
   ex.Post,
-) (ea-at t) ea.Post
-ea-ex-requires t c κs =
+) (e-at t) e.Post
+e-ex-requires t c κs =
     (omega (arith, c .before .before .before .before .before .before .before .before .before .before .before .before .pre .0, c .before .before .before .before .before .before .before .bump-if .ensures .under 0 .left), c .before .before .before .before .before .before .before .bump-if .ensures .under 0 .ready (c .before .before .before .if1 .left))
 
 -- src/lib.rt:1059:9
-ea-same-length-2 : (t : ℕ) → ea-lts.Need-same-length-2 (
+e-same-length-2 : (t : ℕ) → e-lts.Need-same-length-2 (
   bump-if-reads.Asked,
   bump-if-reads.Learnt,
   ex-below t,
   ex.Post,
-) (ea-at t) ea.Post
-ea-same-length-2 t c =
+) (e-at t) e.Post
+e-same-length-2 t c =
     c .before .before .ex .ensures .under 0 .len ∙ (c .before .before .before .before .before .before .before .before .before .before .bump-if .ensures .under 0 .len)
 
 -- src/lib.rt:1059:9
-ea-returns-2 : (t : ℕ) → ea-lts.Need-returns-2 (
+e-returns-2 : (t : ℕ) → e-lts.Need-returns-2 (
   bump-if-reads.Asked,
   bump-if-reads.Learnt,
   ex-below t,
   ex.Post,
-) (ea-at t) ea.Post
+) (e-at t) e.Post
 unfolding expr-after
-ea-returns-2 t c =
+e-returns-2 t c =
     record { under = λ m. both (c .before .before .before .before .before .before .before .before .before .before .bump-if .ensures .under _) (c .before .before .before .before .before .before .if1 .left) (if-yes (eq-eqb _ _ (c .before .before .before .before .if2 .taken)) (c .before .before .ex .ensures .under _)) }
 
 -- src/lib.rt:1050:1
-ea-same-length-3 : (t : ℕ) → ea-lts.Need-same-length-3 (
+e-same-length-3 : (t : ℕ) → e-lts.Need-same-length-3 (
   bump-if-reads.Asked,
   bump-if-reads.Learnt,
   ex-below t,
   ex.Post,
-) (ea-at t) ea.Post
-ea-same-length-3 t c =
+) (e-at t) e.Post
+e-same-length-3 t c =
     c .before .before .before .before .before .before .bump-if .ensures .under 0 .len
 
 -- src/lib.rt:1050:1
-ea-returns-3 : (t : ℕ) → ea-lts.Need-returns-3 (
+e-returns-3 : (t : ℕ) → e-lts.Need-returns-3 (
   bump-if-reads.Asked,
   bump-if-reads.Learnt,
   ex-below t,
   ex.Post,
-) (ea-at t) ea.Post
+) (e-at t) e.Post
 unfolding expr-after
-ea-returns-3 t c =
+e-returns-3 t c =
     record { under = λ m. both (c .before .before .before .before .before .before .bump-if .ensures .under _) (c .before .before .if1 .left) (if-no (ne-eqb _ _ (c .if2 .left)) (nothing (c .before .before .before .before .before .before .bump-if .ensures .under 0 .ready (c .before .before .if1 .left)))) }
 
 -- src/lib.rt:1101:9
@@ -4101,86 +4101,86 @@ ex-returns-6 t c =
     scoped (c .before .before .before .before .before .before .before .before .before .before .before .before .before .before .before .before .before .before .before .before .before .before .before .before .before .before .before .before .before .before .before .before .flush-ws .ensures) (c .before .before .before .before .before .before .before .before .before .before .before .before .before .before .before .before .before .before .before .before .before .before .before .before .before .before .before .before .if1 .left) (both (c .before .before .before .before .before .before .before .before .before .before .before .before .before .before .before .before .before .before .before .before .before .before .before .before .before .before .attributes .ensures .under _) (c .before .before .before .before .before .before .before .before .before .before .before .before .before .before .before .before .before .before .before .before .before .before .if2 .left) (both (c .before .before .before .before .before .before .before .before .before .before .before .before .before .before .before .before .before .before .before .before .modifiers .ensures .under _) (c .before .before .before .before .before .before .before .before .before .before .before .before .before .before .before .before .if3 .left) (both (c .before .before .before .before .before .before .before .before .before .before .before .before .before .before .labels .ensures .under _) (c .before .before .before .before .before .before .before .before .before .before .if4 .left) (both (c .before .before .before .before .before .before .before .before .ou .ensures .under _) (c .before .before .before .before .if5 .left) (c .before .before .close-at .ensures)))))
 
 -- src/lib.rt:1242:9
-fi-bump-if-requires : (t : ℕ) → fi-lts.Need-bump-if-requires (
+f-bump-if-requires : (t : ℕ) → f-lts.Need-bump-if-requires (
   bump-if-reads.Asked,
   bump-if-reads.Learnt,
   ex-below t,
   ex.Post,
-) (fi-at t) fi.Post
-fi-bump-if-requires t c κs =
+) (f-at t) f.Post
+f-bump-if-requires t c κs =
     c .before .before .before .before .pre .1
 
 -- src/lib.rt:1244:9
-fi-same-length : (t : ℕ) → fi-lts.Need-same-length (
+f-same-length : (t : ℕ) → f-lts.Need-same-length (
   bump-if-reads.Asked,
   bump-if-reads.Learnt,
   ex-below t,
   ex.Post,
-) (fi-at t) fi.Post
-fi-same-length t c =
+) (f-at t) f.Post
+f-same-length t c =
     c .before .before .before .before .bump-if .ensures .under 0 .len
 
 -- src/lib.rt:1244:9
-fi-returns : (t : ℕ) → fi-lts.Need-returns (
+f-returns : (t : ℕ) → f-lts.Need-returns (
   bump-if-reads.Asked,
   bump-if-reads.Learnt,
   ex-below t,
   ex.Post,
-) (fi-at t) fi.Post
+) (f-at t) f.Post
 unfolding for-in
-fi-returns t c =
+f-returns t c =
     record { under = λ m. cut (c .before .before .before .before .bump-if .ensures .under _) (c .if1 .taken) }
 
 -- src/lib.rt:1247:9
-fi-ex-requires : (t : ℕ) → fi-lts.Need-ex-requires (
+f-ex-requires : (t : ℕ) → f-lts.Need-ex-requires (
   bump-if-reads.Asked,
   bump-if-reads.Learnt,
   ex-below t,
   ex.Post,
-) (fi-at t) fi.Post
-fi-ex-requires t c κs =
+) (f-at t) f.Post
+f-ex-requires t c κs =
     (omega (arith, c .before .before .before .before .before .before .before .before .before .before .before .before .pre .0, c .before .before .before .before .before .before .before .bump-if .ensures .under 0 .left), c .before .before .before .before .before .before .before .bump-if .ensures .under 0 .ready (c .before .before .before .if1 .left))
 
 -- src/lib.rt:1247:9
-fi-same-length-2 : (t : ℕ) → fi-lts.Need-same-length-2 (
+f-same-length-2 : (t : ℕ) → f-lts.Need-same-length-2 (
   bump-if-reads.Asked,
   bump-if-reads.Learnt,
   ex-below t,
   ex.Post,
-) (fi-at t) fi.Post
-fi-same-length-2 t c =
+) (f-at t) f.Post
+f-same-length-2 t c =
     c .before .before .ex .ensures .under 0 .len ∙ (c .before .before .before .before .before .before .before .before .before .before .bump-if .ensures .under 0 .len)
 
 -- src/lib.rt:1247:9
-fi-returns-2 : (t : ℕ) → fi-lts.Need-returns-2 (
+f-returns-2 : (t : ℕ) → f-lts.Need-returns-2 (
   bump-if-reads.Asked,
   bump-if-reads.Learnt,
   ex-below t,
   ex.Post,
-) (fi-at t) fi.Post
+) (f-at t) f.Post
 unfolding for-in
-fi-returns-2 t c =
+f-returns-2 t c =
     record { under = λ m. both (c .before .before .before .before .before .before .before .before .before .before .bump-if .ensures .under _) (c .before .before .before .before .before .before .if1 .left) (if-yes (eq-eqb _ _ (c .before .before .before .before .if2 .taken)) (c .before .before .ex .ensures .under _)) }
 
 -- src/lib.rt:1238:1
-fi-same-length-3 : (t : ℕ) → fi-lts.Need-same-length-3 (
+f-same-length-3 : (t : ℕ) → f-lts.Need-same-length-3 (
   bump-if-reads.Asked,
   bump-if-reads.Learnt,
   ex-below t,
   ex.Post,
-) (fi-at t) fi.Post
-fi-same-length-3 t c =
+) (f-at t) f.Post
+f-same-length-3 t c =
     c .before .before .before .before .before .before .bump-if .ensures .under 0 .len
 
 -- src/lib.rt:1238:1
-fi-returns-3 : (t : ℕ) → fi-lts.Need-returns-3 (
+f-returns-3 : (t : ℕ) → f-lts.Need-returns-3 (
   bump-if-reads.Asked,
   bump-if-reads.Learnt,
   ex-below t,
   ex.Post,
-) (fi-at t) fi.Post
+) (f-at t) f.Post
 unfolding for-in
-fi-returns-3 t c =
+f-returns-3 t c =
     record { under = λ m. both (c .before .before .before .before .before .before .bump-if .ensures .under _) (c .before .before .if1 .left) (if-no (ne-eqb _ _ (c .if2 .left)) (nothing (c .before .before .before .before .before .before .bump-if .ensures .under 0 .ready (c .before .before .if1 .left)))) }
 
 -- src/lib.rt:1223:9
@@ -4189,8 +4189,8 @@ fo-bump-requires : (t : ℕ) → fo-lts.Need-bump-requires (
   bump-reads.Learnt,
   pat-reads.Asked,
   pat-reads.Learnt,
-  fi-below t,
-  fi.Post,
+  f-below t,
+  f.Post,
   bl-below t,
   bl.Post,
 ) (fo-at t) fo.Post
@@ -4203,8 +4203,8 @@ fo-same-length : (t : ℕ) → fo-lts.Need-same-length (
   bump-reads.Learnt,
   pat-reads.Asked,
   pat-reads.Learnt,
-  fi-below t,
-  fi.Post,
+  f-below t,
+  f.Post,
   bl-below t,
   bl.Post,
 ) (fo-at t) fo.Post
@@ -4217,8 +4217,8 @@ fo-returns : (t : ℕ) → fo-lts.Need-returns (
   bump-reads.Learnt,
   pat-reads.Asked,
   pat-reads.Learnt,
-  fi-below t,
-  fi.Post,
+  f-below t,
+  f.Post,
   bl-below t,
   bl.Post,
 ) (fo-at t) fo.Post
@@ -4232,8 +4232,8 @@ fo-pat-requires : (t : ℕ) → fo-lts.Need-pat-requires (
   bump-reads.Learnt,
   pat-reads.Asked,
   pat-reads.Learnt,
-  fi-below t,
-  fi.Post,
+  f-below t,
+  f.Post,
   bl-below t,
   bl.Post,
 ) (fo-at t) fo.Post
@@ -4246,8 +4246,8 @@ fo-same-length-2 : (t : ℕ) → fo-lts.Need-same-length-2 (
   bump-reads.Learnt,
   pat-reads.Asked,
   pat-reads.Learnt,
-  fi-below t,
-  fi.Post,
+  f-below t,
+  f.Post,
   bl-below t,
   bl.Post,
 ) (fo-at t) fo.Post
@@ -4260,8 +4260,8 @@ fo-returns-2 : (t : ℕ) → fo-lts.Need-returns-2 (
   bump-reads.Learnt,
   pat-reads.Asked,
   pat-reads.Learnt,
-  fi-below t,
-  fi.Post,
+  f-below t,
+  f.Post,
   bl-below t,
   bl.Post,
 ) (fo-at t) fo.Post
@@ -4270,17 +4270,17 @@ fo-returns-2 t c =
     record { under = λ m. both (c .before .before .before .before .before .before .before .before .before .before .bump .ensures .under _) (c .before .before .before .before .before .before .if1 .left) (cut (c .before .before .before .before .pat .ensures .under _) (c .if2 .taken)) }
 
 -- src/lib.rt:1231:5
-fo-fi-requires : (t : ℕ) → fo-lts.Need-fi-requires (
+fo-f-requires : (t : ℕ) → fo-lts.Need-f-requires (
   bump-reads.Asked,
   bump-reads.Learnt,
   pat-reads.Asked,
   pat-reads.Learnt,
-  fi-below t,
-  fi.Post,
+  f-below t,
+  f.Post,
   bl-below t,
   bl.Post,
 ) (fo-at t) fo.Post
-fo-fi-requires t c κs =
+fo-f-requires t c κs =
     (omega (arith, c .before .before .before .before .before .before .before .before .before .before .before .before .before .before .before .before .pre .0, c .before .before .before .before .before .before .before .before .before .before .before .bump .ensures .under 0 .left, c .before .before .before .before .before .pat .ensures .under 0 .left), c .before .before .before .before .before .pat .ensures .under 0 .ready (c .before .if2 .left))
 
 -- src/lib.rt:1233:9
@@ -4289,13 +4289,13 @@ fo-same-length-3 : (t : ℕ) → fo-lts.Need-same-length-3 (
   bump-reads.Learnt,
   pat-reads.Asked,
   pat-reads.Learnt,
-  fi-below t,
-  fi.Post,
+  f-below t,
+  f.Post,
   bl-below t,
   bl.Post,
 ) (fo-at t) fo.Post
 fo-same-length-3 t c =
-    c .before .before .before .before .fi .ensures .under 0 .len ∙ (c .before .before .before .before .before .before .before .before .before .before .pat .ensures .under 0 .len ∙ (c .before .before .before .before .before .before .before .before .before .before .before .before .before .before .before .before .bump .ensures .under 0 .len))
+    c .before .before .before .before .f .ensures .under 0 .len ∙ (c .before .before .before .before .before .before .before .before .before .before .pat .ensures .under 0 .len ∙ (c .before .before .before .before .before .before .before .before .before .before .before .before .before .before .before .before .bump .ensures .under 0 .len))
 
 -- src/lib.rt:1233:9
 fo-returns-3 : (t : ℕ) → fo-lts.Need-returns-3 (
@@ -4303,14 +4303,14 @@ fo-returns-3 : (t : ℕ) → fo-lts.Need-returns-3 (
   bump-reads.Learnt,
   pat-reads.Asked,
   pat-reads.Learnt,
-  fi-below t,
-  fi.Post,
+  f-below t,
+  f.Post,
   bl-below t,
   bl.Post,
 ) (fo-at t) fo.Post
 unfolding expr-for
 fo-returns-3 t c =
-    record { under = λ m. both (c .before .before .before .before .before .before .before .before .before .before .before .before .before .before .before .before .bump .ensures .under _) (c .before .before .before .before .before .before .before .before .before .before .before .before .if1 .left) (both (c .before .before .before .before .before .before .before .before .before .before .pat .ensures .under _) (c .before .before .before .before .before .before .if2 .left) (cut (c .before .before .before .before .fi .ensures .under _) (c .if3 .taken))) }
+    record { under = λ m. both (c .before .before .before .before .before .before .before .before .before .before .before .before .before .before .before .before .bump .ensures .under _) (c .before .before .before .before .before .before .before .before .before .before .before .before .if1 .left) (both (c .before .before .before .before .before .before .before .before .before .before .pat .ensures .under _) (c .before .before .before .before .before .before .if2 .left) (cut (c .before .before .before .before .f .ensures .under _) (c .if3 .taken))) }
 
 -- src/lib.rt:1235:5
 fo-bl-requires : (t : ℕ) → fo-lts.Need-bl-requires (
@@ -4318,13 +4318,13 @@ fo-bl-requires : (t : ℕ) → fo-lts.Need-bl-requires (
   bump-reads.Learnt,
   pat-reads.Asked,
   pat-reads.Learnt,
-  fi-below t,
-  fi.Post,
+  f-below t,
+  f.Post,
   bl-below t,
   bl.Post,
 ) (fo-at t) fo.Post
 fo-bl-requires t c κs =
-    (omega (arith, c .before .before .before .before .before .before .before .before .before .before .before .before .before .before .before .before .before .before .before .before .before .before .pre .0, c .before .before .before .before .before .before .before .before .before .before .before .before .before .before .before .before .before .bump .ensures .under 0 .left, c .before .before .before .before .before .before .before .before .before .before .before .pat .ensures .under 0 .left, c .before .before .before .before .before .fi .ensures .under 0 .left), c .before .before .before .before .before .fi .ensures .under 0 .ready (c .before .if3 .left))
+    (omega (arith, c .before .before .before .before .before .before .before .before .before .before .before .before .before .before .before .before .before .before .before .before .before .before .pre .0, c .before .before .before .before .before .before .before .before .before .before .before .before .before .before .before .before .before .bump .ensures .under 0 .left, c .before .before .before .before .before .before .before .before .before .before .before .pat .ensures .under 0 .left, c .before .before .before .before .before .f .ensures .under 0 .left), c .before .before .before .before .before .f .ensures .under 0 .ready (c .before .if3 .left))
 
 -- src/lib.rt:1219:1
 fo-same-length-4 : (t : ℕ) → fo-lts.Need-same-length-4 (
@@ -4332,13 +4332,13 @@ fo-same-length-4 : (t : ℕ) → fo-lts.Need-same-length-4 (
   bump-reads.Learnt,
   pat-reads.Asked,
   pat-reads.Learnt,
-  fi-below t,
-  fi.Post,
+  f-below t,
+  f.Post,
   bl-below t,
   bl.Post,
 ) (fo-at t) fo.Post
 fo-same-length-4 t c =
-    c .before .before .bl .ensures .under 0 .len ∙ (c .before .before .before .before .before .before .before .before .fi .ensures .under 0 .len ∙ (c .before .before .before .before .before .before .before .before .before .before .before .before .before .before .pat .ensures .under 0 .len ∙ (c .before .before .before .before .before .before .before .before .before .before .before .before .before .before .before .before .before .before .before .before .bump .ensures .under 0 .len)))
+    c .before .before .bl .ensures .under 0 .len ∙ (c .before .before .before .before .before .before .before .before .f .ensures .under 0 .len ∙ (c .before .before .before .before .before .before .before .before .before .before .before .before .before .before .pat .ensures .under 0 .len ∙ (c .before .before .before .before .before .before .before .before .before .before .before .before .before .before .before .before .before .before .before .before .bump .ensures .under 0 .len)))
 
 -- src/lib.rt:1219:1
 fo-returns-4 : (t : ℕ) → fo-lts.Need-returns-4 (
@@ -4346,235 +4346,235 @@ fo-returns-4 : (t : ℕ) → fo-lts.Need-returns-4 (
   bump-reads.Learnt,
   pat-reads.Asked,
   pat-reads.Learnt,
-  fi-below t,
-  fi.Post,
+  f-below t,
+  f.Post,
   bl-below t,
   bl.Post,
 ) (fo-at t) fo.Post
 unfolding expr-for
 fo-returns-4 t c =
-    record { under = λ m. both (c .before .before .before .before .before .before .before .before .before .before .before .before .before .before .before .before .before .before .before .before .bump .ensures .under _) (c .before .before .before .before .before .before .before .before .before .before .before .before .before .before .before .before .if1 .left) (both (c .before .before .before .before .before .before .before .before .before .before .before .before .before .before .pat .ensures .under _) (c .before .before .before .before .before .before .before .before .before .before .if2 .left) (both (c .before .before .before .before .before .before .before .before .fi .ensures .under _) (c .before .before .before .before .if3 .left) (c .before .before .bl .ensures .under _))) }
+    record { under = λ m. both (c .before .before .before .before .before .before .before .before .before .before .before .before .before .before .before .before .before .before .before .before .bump .ensures .under _) (c .before .before .before .before .before .before .before .before .before .before .before .before .before .before .before .before .if1 .left) (both (c .before .before .before .before .before .before .before .before .before .before .before .before .before .before .pat .ensures .under _) (c .before .before .before .before .before .before .before .before .before .before .if2 .left) (both (c .before .before .before .before .before .before .before .before .f .ensures .under _) (c .before .before .before .before .if3 .left) (c .before .before .bl .ensures .under _))) }
 
 -- src/lib.rt:1892:9
-ic-bump-requires : (t : ℕ) → ic-lts.Need-bump-requires (
+h-bump-requires : (t : ℕ) → h-lts.Need-bump-requires (
   bump-reads.Asked,
   bump-reads.Learnt,
   bump-if-reads.Asked,
   bump-if-reads.Learnt,
   ex-below t,
   ex.Post,
-) (ic-at t) ic.Post
-ic-bump-requires t c κs =
+) (h-at t) h.Post
+h-bump-requires t c κs =
     c .before .before .before .before .pre .1
 
 -- src/lib.rt:1894:9
-ic-same-length : (t : ℕ) → ic-lts.Need-same-length (
+h-same-length : (t : ℕ) → h-lts.Need-same-length (
   bump-reads.Asked,
   bump-reads.Learnt,
   bump-if-reads.Asked,
   bump-if-reads.Learnt,
   ex-below t,
   ex.Post,
-) (ic-at t) ic.Post
-ic-same-length t c =
+) (h-at t) h.Post
+h-same-length t c =
     c .before .before .before .before .bump .ensures .under 0 .len
 
 -- src/lib.rt:1894:9
-ic-returns : (t : ℕ) → ic-lts.Need-returns (
+h-returns : (t : ℕ) → h-lts.Need-returns (
   bump-reads.Asked,
   bump-reads.Learnt,
   bump-if-reads.Asked,
   bump-if-reads.Learnt,
   ex-below t,
   ex.Post,
-) (ic-at t) ic.Post
+) (h-at t) h.Post
 unfolding item-const
-ic-returns t c =
+h-returns t c =
     record { under = λ m. cut (c .before .before .before .before .bump .ensures .under _) (c .if1 .taken) }
 
 -- src/lib.rt:1896:5
-ic-bump-if-requires : (t : ℕ) → ic-lts.Need-bump-if-requires (
+h-bump-if-requires : (t : ℕ) → h-lts.Need-bump-if-requires (
   bump-reads.Asked,
   bump-reads.Learnt,
   bump-if-reads.Asked,
   bump-if-reads.Learnt,
   ex-below t,
   ex.Post,
-) (ic-at t) ic.Post
-ic-bump-if-requires t c κs =
+) (h-at t) h.Post
+h-bump-if-requires t c κs =
     c .before .before .before .before .before .bump .ensures .under 0 .ready (c .before .if1 .left)
 
 -- src/lib.rt:1898:9
-ic-same-length-2 : (t : ℕ) → ic-lts.Need-same-length-2 (
+h-same-length-2 : (t : ℕ) → h-lts.Need-same-length-2 (
   bump-reads.Asked,
   bump-reads.Learnt,
   bump-if-reads.Asked,
   bump-if-reads.Learnt,
   ex-below t,
   ex.Post,
-) (ic-at t) ic.Post
-ic-same-length-2 t c =
+) (h-at t) h.Post
+h-same-length-2 t c =
     c .before .before .before .before .bump-if .ensures .under 0 .len ∙ (c .before .before .before .before .before .before .before .before .before .before .bump .ensures .under 0 .len)
 
 -- src/lib.rt:1898:9
-ic-returns-2 : (t : ℕ) → ic-lts.Need-returns-2 (
+h-returns-2 : (t : ℕ) → h-lts.Need-returns-2 (
   bump-reads.Asked,
   bump-reads.Learnt,
   bump-if-reads.Asked,
   bump-if-reads.Learnt,
   ex-below t,
   ex.Post,
-) (ic-at t) ic.Post
+) (h-at t) h.Post
 unfolding item-const
-ic-returns-2 t c =
+h-returns-2 t c =
     record { under = λ m. both (c .before .before .before .before .before .before .before .before .before .before .bump .ensures .under _) (c .before .before .before .before .before .before .if1 .left) (cut (ends (c .before .before .before .before .bump-if .ensures .under _)) (c .if2 .taken)) }
 
 -- src/lib.rt:1900:5
-ic-ex-requires : (t : ℕ) → ic-lts.Need-ex-requires (
+h-ex-requires : (t : ℕ) → h-lts.Need-ex-requires (
   bump-reads.Asked,
   bump-reads.Learnt,
   bump-if-reads.Asked,
   bump-if-reads.Learnt,
   ex-below t,
   ex.Post,
-) (ic-at t) ic.Post
-ic-ex-requires t c κs =
+) (h-at t) h.Post
+h-ex-requires t c κs =
     (omega (arith, c .before .before .before .before .before .before .before .before .before .before .before .before .before .before .before .before .pre .0, c .before .before .before .before .before .before .before .before .before .before .before .bump .ensures .under 0 .left, c .before .before .before .before .before .bump-if .ensures .under 0 .left), c .before .before .before .before .before .bump-if .ensures .under 0 .ready (c .before .if2 .left))
 
 -- src/lib.rt:1888:1
-ic-same-length-3 : (t : ℕ) → ic-lts.Need-same-length-3 (
+h-same-length-3 : (t : ℕ) → h-lts.Need-same-length-3 (
   bump-reads.Asked,
   bump-reads.Learnt,
   bump-if-reads.Asked,
   bump-if-reads.Learnt,
   ex-below t,
   ex.Post,
-) (ic-at t) ic.Post
-ic-same-length-3 t c =
+) (h-at t) h.Post
+h-same-length-3 t c =
     c .before .before .ex .ensures .under 0 .len ∙ (c .before .before .before .before .before .before .before .before .bump-if .ensures .under 0 .len ∙ (c .before .before .before .before .before .before .before .before .before .before .before .before .before .before .bump .ensures .under 0 .len))
 
 -- src/lib.rt:1888:1
-ic-returns-3 : (t : ℕ) → ic-lts.Need-returns-3 (
+h-returns-3 : (t : ℕ) → h-lts.Need-returns-3 (
   bump-reads.Asked,
   bump-reads.Learnt,
   bump-if-reads.Asked,
   bump-if-reads.Learnt,
   ex-below t,
   ex.Post,
-) (ic-at t) ic.Post
+) (h-at t) h.Post
 unfolding item-const
-ic-returns-3 t c =
+h-returns-3 t c =
     record { under = λ m. both (c .before .before .before .before .before .before .before .before .before .before .before .before .before .before .bump .ensures .under _) (c .before .before .before .before .before .before .before .before .before .before .if1 .left) (both (ends (c .before .before .before .before .before .before .before .before .bump-if .ensures .under _)) (c .before .before .before .before .if2 .left) (c .before .before .ex .ensures .under _)) }
 
 -- src/lib.rt:1929:9
-ii-bump-requires : (t : ℕ) → ii-lts.Need-bump-requires (
+i-bump-requires : (t : ℕ) → i-lts.Need-bump-requires (
   bump-reads.Asked,
   bump-reads.Learnt,
   impl-path-reads.Asked,
   impl-path-reads.Learnt,
   bl-below t,
   bl.Post,
-) (ii-at t) ii.Post
-ii-bump-requires t c κs =
+) (i-at t) i.Post
+i-bump-requires t c κs =
     c .before .before .before .before .pre .1
 
 -- src/lib.rt:1931:9
-ii-same-length : (t : ℕ) → ii-lts.Need-same-length (
+i-same-length : (t : ℕ) → i-lts.Need-same-length (
   bump-reads.Asked,
   bump-reads.Learnt,
   impl-path-reads.Asked,
   impl-path-reads.Learnt,
   bl-below t,
   bl.Post,
-) (ii-at t) ii.Post
-ii-same-length t c =
+) (i-at t) i.Post
+i-same-length t c =
     c .before .before .before .before .bump .ensures .under 0 .len
 
 -- src/lib.rt:1931:9
-ii-returns : (t : ℕ) → ii-lts.Need-returns (
+i-returns : (t : ℕ) → i-lts.Need-returns (
   bump-reads.Asked,
   bump-reads.Learnt,
   impl-path-reads.Asked,
   impl-path-reads.Learnt,
   bl-below t,
   bl.Post,
-) (ii-at t) ii.Post
+) (i-at t) i.Post
 unfolding item-impl
-ii-returns t c =
+i-returns t c =
     record { under = λ m. cut (c .before .before .before .before .bump .ensures .under _) (c .if1 .taken) }
 
 -- src/lib.rt:1933:5
-ii-impl-path-requires : (t : ℕ) → ii-lts.Need-impl-path-requires (
+i-impl-path-requires : (t : ℕ) → i-lts.Need-impl-path-requires (
   bump-reads.Asked,
   bump-reads.Learnt,
   impl-path-reads.Asked,
   impl-path-reads.Learnt,
   bl-below t,
   bl.Post,
-) (ii-at t) ii.Post
-ii-impl-path-requires t c κs =
+) (i-at t) i.Post
+i-impl-path-requires t c κs =
     c .before .before .before .before .before .bump .ensures .under 0 .ready (c .before .if1 .left)
 
 -- src/lib.rt:1935:9
-ii-same-length-2 : (t : ℕ) → ii-lts.Need-same-length-2 (
+i-same-length-2 : (t : ℕ) → i-lts.Need-same-length-2 (
   bump-reads.Asked,
   bump-reads.Learnt,
   impl-path-reads.Asked,
   impl-path-reads.Learnt,
   bl-below t,
   bl.Post,
-) (ii-at t) ii.Post
-ii-same-length-2 t c =
+) (i-at t) i.Post
+i-same-length-2 t c =
     c .before .before .before .before .impl-path .ensures .under 0 .len ∙ (c .before .before .before .before .before .before .before .before .before .before .bump .ensures .under 0 .len)
 
 -- src/lib.rt:1935:9
-ii-returns-2 : (t : ℕ) → ii-lts.Need-returns-2 (
+i-returns-2 : (t : ℕ) → i-lts.Need-returns-2 (
   bump-reads.Asked,
   bump-reads.Learnt,
   impl-path-reads.Asked,
   impl-path-reads.Learnt,
   bl-below t,
   bl.Post,
-) (ii-at t) ii.Post
+) (i-at t) i.Post
 unfolding item-impl
-ii-returns-2 t c =
+i-returns-2 t c =
     record { under = λ m. both (c .before .before .before .before .before .before .before .before .before .before .bump .ensures .under _) (c .before .before .before .before .before .before .if1 .left) (cut (c .before .before .before .before .impl-path .ensures .under _) (c .if2 .taken)) }
 
 -- src/lib.rt:1937:5
-ii-bl-requires : (t : ℕ) → ii-lts.Need-bl-requires (
+i-bl-requires : (t : ℕ) → i-lts.Need-bl-requires (
   bump-reads.Asked,
   bump-reads.Learnt,
   impl-path-reads.Asked,
   impl-path-reads.Learnt,
   bl-below t,
   bl.Post,
-) (ii-at t) ii.Post
-ii-bl-requires t c κs =
+) (i-at t) i.Post
+i-bl-requires t c κs =
     (omega (arith, c .before .before .before .before .before .before .before .before .before .before .before .before .before .before .before .before .pre .0, c .before .before .before .before .before .before .before .before .before .before .before .bump .ensures .under 0 .left, c .before .before .before .before .before .impl-path .ensures .under 0 .left), c .before .before .before .before .before .impl-path .ensures .under 0 .ready (c .before .if2 .left))
 
 -- src/lib.rt:1925:1
-ii-same-length-3 : (t : ℕ) → ii-lts.Need-same-length-3 (
+i-same-length-3 : (t : ℕ) → i-lts.Need-same-length-3 (
   bump-reads.Asked,
   bump-reads.Learnt,
   impl-path-reads.Asked,
   impl-path-reads.Learnt,
   bl-below t,
   bl.Post,
-) (ii-at t) ii.Post
-ii-same-length-3 t c =
+) (i-at t) i.Post
+i-same-length-3 t c =
     c .before .before .bl .ensures .under 0 .len ∙ (c .before .before .before .before .before .before .before .before .impl-path .ensures .under 0 .len ∙ (c .before .before .before .before .before .before .before .before .before .before .before .before .before .before .bump .ensures .under 0 .len))
 
 -- src/lib.rt:1925:1
-ii-returns-3 : (t : ℕ) → ii-lts.Need-returns-3 (
+i-returns-3 : (t : ℕ) → i-lts.Need-returns-3 (
   bump-reads.Asked,
   bump-reads.Learnt,
   impl-path-reads.Asked,
   impl-path-reads.Learnt,
   bl-below t,
   bl.Post,
-) (ii-at t) ii.Post
+) (i-at t) i.Post
 unfolding item-impl
-ii-returns-3 t c =
+i-returns-3 t c =
     record { under = λ m. both (c .before .before .before .before .before .before .before .before .before .before .before .before .before .before .bump .ensures .under _) (c .before .before .before .before .before .before .before .before .before .before .if1 .left) (both (c .before .before .before .before .before .before .before .before .impl-path .ensures .under _) (c .before .before .before .before .if2 .left) (c .before .before .bl .ensures .under _)) }
 
 -- src/lib.rt:1944:9
@@ -4779,40 +4779,40 @@ im-returns-5 t c =
     record { under = λ m. both (c .before .before .before .before .before .before .before .before .before .before .before .before .bump .ensures .under _) (c .before .before .before .before .before .before .before .before .if1 .left) (both (ends (c .before .before .before .before .before .before .bump-if .ensures .under _)) (c .before .before .if2 .left) (ask (c .before .peek .ensures) (if-no (ne-eqb _ _ (c .if3 .left)) (answered (c .before .before .before .before .before .before .bump-if .ensures .under 0 .ready (c .before .before .if2 .left)))))) }
 
 -- src/lib.rt:920:9
-is-xl-requires : (t : ℕ) → is-lts.Need-xl-requires (
-  xl-below t,
-  xl.Post,
+is-x-requires : (t : ℕ) → is-lts.Need-x-requires (
+  x-below t,
+  x.Post,
   pat-list-reads.Asked,
   pat-list-reads.Learnt,
 ) (is-at t) is′.Post
-is-xl-requires t c κs =
+is-x-requires t c κs =
     (omega (arith, c .before .before .before .before .before .pre .0), c .before .before .before .before .before .pre .1)
 
 -- src/lib.rt:920:9
 is-same-length : (t : ℕ) → is-lts.Need-same-length (
-  xl-below t,
-  xl.Post,
+  x-below t,
+  x.Post,
   pat-list-reads.Asked,
   pat-list-reads.Learnt,
 ) (is-at t) is′.Post
 is-same-length t c =
-    c .before .before .xl .ensures .under 0 .len
+    c .before .before .x .ensures .under 0 .len
 
 -- src/lib.rt:920:9
 is-returns : (t : ℕ) → is-lts.Need-returns (
-  xl-below t,
-  xl.Post,
+  x-below t,
+  x.Post,
   pat-list-reads.Asked,
   pat-list-reads.Learnt,
 ) (is-at t) is′.Post
 unfolding items
 is-returns t c =
-    record { under = λ m. if-yes (c .before .before .before .before .if1 .taken) (c .before .before .xl .ensures .under _) }
+    record { under = λ m. if-yes (c .before .before .before .before .if1 .taken) (c .before .before .x .ensures .under _) }
 
 -- src/lib.rt:922:5
 is-pat-list-requires : (t : ℕ) → is-lts.Need-pat-list-requires (
-  xl-below t,
-  xl.Post,
+  x-below t,
+  x.Post,
   pat-list-reads.Asked,
   pat-list-reads.Learnt,
 ) (is-at t) is′.Post
@@ -4821,8 +4821,8 @@ is-pat-list-requires t c κs =
 
 -- src/lib.rt:915:1
 is-same-length-2 : (t : ℕ) → is-lts.Need-same-length-2 (
-  xl-below t,
-  xl.Post,
+  x-below t,
+  x.Post,
   pat-list-reads.Asked,
   pat-list-reads.Learnt,
 ) (is-at t) is′.Post
@@ -4831,8 +4831,8 @@ is-same-length-2 t c =
 
 -- src/lib.rt:915:1
 is-returns-2 : (t : ℕ) → is-lts.Need-returns-2 (
-  xl-below t,
-  xl.Post,
+  x-below t,
+  x.Post,
   pat-list-reads.Asked,
   pat-list-reads.Learnt,
 ) (is-at t) is′.Post
@@ -5086,7 +5086,7 @@ it-returns-5 t c =
     record { under = λ m. both (c .before .before .before .before .before .before .before .before .before .before .before .before .before .before .before .before .before .before .bump .ensures .under _) (c .before .before .before .before .before .before .before .before .before .before .before .before .before .before .if1 .left) (both (ends (c .before .before .before .before .before .before .before .before .before .before .before .before .bump-if .ensures .under _)) (c .before .before .before .before .before .before .before .before .if2 .left) (both (c .before .before .before .before .before .before .fn-args .ensures .under _) (c .before .before .if3 .left) (ask (c .before .peek .ensures) (if-no (ne-eqb _ _ (c .if4 .left)) (nothing (c .before .before .before .before .before .before .fn-args .ensures .under 0 .ready (c .before .before .if3 .left))))))) }
 
 -- src/lib.rt:1873:9
-lc-bump-requires : (t : ℕ) → lc-lts.Need-bump-requires (
+l-bump-requires : (t : ℕ) → l-lts.Need-bump-requires (
   bump-reads.Asked,
   bump-reads.Learnt,
   pat-reads.Asked,
@@ -5095,12 +5095,12 @@ lc-bump-requires : (t : ℕ) → lc-lts.Need-bump-requires (
   bump-if-reads.Learnt,
   ex-below t,
   ex.Post,
-) (lc-at t) lc.Post
-lc-bump-requires t c κs =
+) (l-at t) l.Post
+l-bump-requires t c κs =
     c .before .before .before .before .pre .1
 
 -- src/lib.rt:1875:9
-lc-same-length : (t : ℕ) → lc-lts.Need-same-length (
+l-same-length : (t : ℕ) → l-lts.Need-same-length (
   bump-reads.Asked,
   bump-reads.Learnt,
   pat-reads.Asked,
@@ -5109,12 +5109,12 @@ lc-same-length : (t : ℕ) → lc-lts.Need-same-length (
   bump-if-reads.Learnt,
   ex-below t,
   ex.Post,
-) (lc-at t) lc.Post
-lc-same-length t c =
+) (l-at t) l.Post
+l-same-length t c =
     c .before .before .before .before .bump .ensures .under 0 .len
 
 -- src/lib.rt:1875:9
-lc-returns : (t : ℕ) → lc-lts.Need-returns (
+l-returns : (t : ℕ) → l-lts.Need-returns (
   bump-reads.Asked,
   bump-reads.Learnt,
   pat-reads.Asked,
@@ -5123,13 +5123,13 @@ lc-returns : (t : ℕ) → lc-lts.Need-returns (
   bump-if-reads.Learnt,
   ex-below t,
   ex.Post,
-) (lc-at t) lc.Post
+) (l-at t) l.Post
 unfolding local
-lc-returns t c =
+l-returns t c =
     record { under = λ m. cut (c .before .before .before .before .bump .ensures .under _) (c .if1 .taken) }
 
 -- src/lib.rt:1877:5
-lc-pat-requires : (t : ℕ) → lc-lts.Need-pat-requires (
+l-pat-requires : (t : ℕ) → l-lts.Need-pat-requires (
   bump-reads.Asked,
   bump-reads.Learnt,
   pat-reads.Asked,
@@ -5138,12 +5138,12 @@ lc-pat-requires : (t : ℕ) → lc-lts.Need-pat-requires (
   bump-if-reads.Learnt,
   ex-below t,
   ex.Post,
-) (lc-at t) lc.Post
-lc-pat-requires t c κs =
+) (l-at t) l.Post
+l-pat-requires t c κs =
     c .before .before .before .before .before .bump .ensures .under 0 .ready (c .before .if1 .left)
 
 -- src/lib.rt:1879:9
-lc-same-length-2 : (t : ℕ) → lc-lts.Need-same-length-2 (
+l-same-length-2 : (t : ℕ) → l-lts.Need-same-length-2 (
   bump-reads.Asked,
   bump-reads.Learnt,
   pat-reads.Asked,
@@ -5152,12 +5152,12 @@ lc-same-length-2 : (t : ℕ) → lc-lts.Need-same-length-2 (
   bump-if-reads.Learnt,
   ex-below t,
   ex.Post,
-) (lc-at t) lc.Post
-lc-same-length-2 t c =
+) (l-at t) l.Post
+l-same-length-2 t c =
     c .before .before .before .before .pat .ensures .under 0 .len ∙ (c .before .before .before .before .before .before .before .before .before .before .bump .ensures .under 0 .len)
 
 -- src/lib.rt:1879:9
-lc-returns-2 : (t : ℕ) → lc-lts.Need-returns-2 (
+l-returns-2 : (t : ℕ) → l-lts.Need-returns-2 (
   bump-reads.Asked,
   bump-reads.Learnt,
   pat-reads.Asked,
@@ -5166,13 +5166,13 @@ lc-returns-2 : (t : ℕ) → lc-lts.Need-returns-2 (
   bump-if-reads.Learnt,
   ex-below t,
   ex.Post,
-) (lc-at t) lc.Post
+) (l-at t) l.Post
 unfolding local
-lc-returns-2 t c =
+l-returns-2 t c =
     record { under = λ m. both (c .before .before .before .before .before .before .before .before .before .before .bump .ensures .under _) (c .before .before .before .before .before .before .if1 .left) (cut (c .before .before .before .before .pat .ensures .under _) (c .if2 .taken)) }
 
 -- src/lib.rt:1881:5
-lc-bump-if-requires : (t : ℕ) → lc-lts.Need-bump-if-requires (
+l-bump-if-requires : (t : ℕ) → l-lts.Need-bump-if-requires (
   bump-reads.Asked,
   bump-reads.Learnt,
   pat-reads.Asked,
@@ -5181,12 +5181,12 @@ lc-bump-if-requires : (t : ℕ) → lc-lts.Need-bump-if-requires (
   bump-if-reads.Learnt,
   ex-below t,
   ex.Post,
-) (lc-at t) lc.Post
-lc-bump-if-requires t c κs =
+) (l-at t) l.Post
+l-bump-if-requires t c κs =
     c .before .before .before .before .before .pat .ensures .under 0 .ready (c .before .if2 .left)
 
 -- src/lib.rt:1883:9
-lc-same-length-3 : (t : ℕ) → lc-lts.Need-same-length-3 (
+l-same-length-3 : (t : ℕ) → l-lts.Need-same-length-3 (
   bump-reads.Asked,
   bump-reads.Learnt,
   pat-reads.Asked,
@@ -5195,12 +5195,12 @@ lc-same-length-3 : (t : ℕ) → lc-lts.Need-same-length-3 (
   bump-if-reads.Learnt,
   ex-below t,
   ex.Post,
-) (lc-at t) lc.Post
-lc-same-length-3 t c =
+) (l-at t) l.Post
+l-same-length-3 t c =
     c .before .before .before .before .bump-if .ensures .under 0 .len ∙ (c .before .before .before .before .before .before .before .before .before .before .pat .ensures .under 0 .len ∙ (c .before .before .before .before .before .before .before .before .before .before .before .before .before .before .before .before .bump .ensures .under 0 .len))
 
 -- src/lib.rt:1883:9
-lc-returns-3 : (t : ℕ) → lc-lts.Need-returns-3 (
+l-returns-3 : (t : ℕ) → l-lts.Need-returns-3 (
   bump-reads.Asked,
   bump-reads.Learnt,
   pat-reads.Asked,
@@ -5209,13 +5209,13 @@ lc-returns-3 : (t : ℕ) → lc-lts.Need-returns-3 (
   bump-if-reads.Learnt,
   ex-below t,
   ex.Post,
-) (lc-at t) lc.Post
+) (l-at t) l.Post
 unfolding local
-lc-returns-3 t c =
+l-returns-3 t c =
     record { under = λ m. both (c .before .before .before .before .before .before .before .before .before .before .before .before .before .before .before .before .bump .ensures .under _) (c .before .before .before .before .before .before .before .before .before .before .before .before .if1 .left) (both (c .before .before .before .before .before .before .before .before .before .before .pat .ensures .under _) (c .before .before .before .before .before .before .if2 .left) (cut (ends (c .before .before .before .before .bump-if .ensures .under _)) (c .if3 .taken))) }
 
 -- src/lib.rt:1885:5
-lc-ex-requires : (t : ℕ) → lc-lts.Need-ex-requires (
+l-ex-requires : (t : ℕ) → l-lts.Need-ex-requires (
   bump-reads.Asked,
   bump-reads.Learnt,
   pat-reads.Asked,
@@ -5224,12 +5224,12 @@ lc-ex-requires : (t : ℕ) → lc-lts.Need-ex-requires (
   bump-if-reads.Learnt,
   ex-below t,
   ex.Post,
-) (lc-at t) lc.Post
-lc-ex-requires t c κs =
+) (l-at t) l.Post
+l-ex-requires t c κs =
     (omega (arith, c .before .before .before .before .before .before .before .before .before .before .before .before .before .before .before .before .before .before .before .before .before .before .pre .0, c .before .before .before .before .before .before .before .before .before .before .before .before .before .before .before .before .before .bump .ensures .under 0 .left, c .before .before .before .before .before .before .before .before .before .before .before .pat .ensures .under 0 .left, c .before .before .before .before .before .bump-if .ensures .under 0 .left), c .before .before .before .before .before .bump-if .ensures .under 0 .ready (c .before .if3 .left))
 
 -- src/lib.rt:1869:1
-lc-same-length-4 : (t : ℕ) → lc-lts.Need-same-length-4 (
+l-same-length-4 : (t : ℕ) → l-lts.Need-same-length-4 (
   bump-reads.Asked,
   bump-reads.Learnt,
   pat-reads.Asked,
@@ -5238,12 +5238,12 @@ lc-same-length-4 : (t : ℕ) → lc-lts.Need-same-length-4 (
   bump-if-reads.Learnt,
   ex-below t,
   ex.Post,
-) (lc-at t) lc.Post
-lc-same-length-4 t c =
+) (l-at t) l.Post
+l-same-length-4 t c =
     c .before .before .ex .ensures .under 0 .len ∙ (c .before .before .before .before .before .before .before .before .bump-if .ensures .under 0 .len ∙ (c .before .before .before .before .before .before .before .before .before .before .before .before .before .before .pat .ensures .under 0 .len ∙ (c .before .before .before .before .before .before .before .before .before .before .before .before .before .before .before .before .before .before .before .before .bump .ensures .under 0 .len)))
 
 -- src/lib.rt:1869:1
-lc-returns-4 : (t : ℕ) → lc-lts.Need-returns-4 (
+l-returns-4 : (t : ℕ) → l-lts.Need-returns-4 (
   bump-reads.Asked,
   bump-reads.Learnt,
   pat-reads.Asked,
@@ -5252,9 +5252,9 @@ lc-returns-4 : (t : ℕ) → lc-lts.Need-returns-4 (
   bump-if-reads.Learnt,
   ex-below t,
   ex.Post,
-) (lc-at t) lc.Post
+) (l-at t) l.Post
 unfolding local
-lc-returns-4 t c =
+l-returns-4 t c =
     record { under = λ m. both (c .before .before .before .before .before .before .before .before .before .before .before .before .before .before .before .before .before .before .before .before .bump .ensures .under _) (c .before .before .before .before .before .before .before .before .before .before .before .before .before .before .before .before .if1 .left) (both (c .before .before .before .before .before .before .before .before .before .before .before .before .before .before .pat .ensures .under _) (c .before .before .before .before .before .before .before .before .before .before .if2 .left) (both (ends (c .before .before .before .before .before .before .before .before .bump-if .ensures .under _)) (c .before .before .before .before .if3 .left) (c .before .before .ex .ensures .under _))) }
 
 -- src/lib.rt:860:8
@@ -6115,8 +6115,8 @@ mc-flush-ws-requires : (t : ℕ) → mc-lts.Need-flush-ws-requires (
   flush-ws-reads.Learnt,
   pat-reads.Asked,
   pat-reads.Learnt,
-  ea-below t,
-  ea.Post,
+  e-below t,
+  e.Post,
   close-at-reads.Asked,
   close-at-reads.Learnt,
 ) (mc-at t) mc.Post
@@ -6129,8 +6129,8 @@ mc-same-length : (t : ℕ) → mc-lts.Need-same-length (
   flush-ws-reads.Learnt,
   pat-reads.Asked,
   pat-reads.Learnt,
-  ea-below t,
-  ea.Post,
+  e-below t,
+  e.Post,
   close-at-reads.Asked,
   close-at-reads.Learnt,
 ) (mc-at t) mc.Post
@@ -6143,8 +6143,8 @@ mc-returns : (t : ℕ) → mc-lts.Need-returns (
   flush-ws-reads.Learnt,
   pat-reads.Asked,
   pat-reads.Learnt,
-  ea-below t,
-  ea.Post,
+  e-below t,
+  e.Post,
   close-at-reads.Asked,
   close-at-reads.Learnt,
 ) (mc-at t) mc.Post
@@ -6158,8 +6158,8 @@ mc-pat-requires : (t : ℕ) → mc-lts.Need-pat-requires (
   flush-ws-reads.Learnt,
   pat-reads.Asked,
   pat-reads.Learnt,
-  ea-below t,
-  ea.Post,
+  e-below t,
+  e.Post,
   close-at-reads.Asked,
   close-at-reads.Learnt,
 ) (mc-at t) mc.Post
@@ -6172,8 +6172,8 @@ mc-same-length-2 : (t : ℕ) → mc-lts.Need-same-length-2 (
   flush-ws-reads.Learnt,
   pat-reads.Asked,
   pat-reads.Learnt,
-  ea-below t,
-  ea.Post,
+  e-below t,
+  e.Post,
   close-at-reads.Asked,
   close-at-reads.Learnt,
 ) (mc-at t) mc.Post
@@ -6186,8 +6186,8 @@ mc-returns-2 : (t : ℕ) → mc-lts.Need-returns-2 (
   flush-ws-reads.Learnt,
   pat-reads.Asked,
   pat-reads.Learnt,
-  ea-below t,
-  ea.Post,
+  e-below t,
+  e.Post,
   close-at-reads.Asked,
   close-at-reads.Learnt,
 ) (mc-at t) mc.Post
@@ -6196,17 +6196,17 @@ mc-returns-2 t c =
     scoped (c .before .before .before .before .before .before .before .before .before .before .flush-ws .ensures) (c .before .before .before .before .before .before .if1 .left) (cut (c .before .before .before .before .pat .ensures .under _) (c .if2 .taken))
 
 -- src/lib.rt:1309:5
-mc-ea-requires : (t : ℕ) → mc-lts.Need-ea-requires (
+mc-e-requires : (t : ℕ) → mc-lts.Need-e-requires (
   flush-ws-reads.Asked,
   flush-ws-reads.Learnt,
   pat-reads.Asked,
   pat-reads.Learnt,
-  ea-below t,
-  ea.Post,
+  e-below t,
+  e.Post,
   close-at-reads.Asked,
   close-at-reads.Learnt,
 ) (mc-at t) mc.Post
-mc-ea-requires t c κs =
+mc-e-requires t c κs =
     (omega (arith, c .before .before .before .before .before .before .before .before .before .before .before .before .before .before .before .before .pre .0, c .before .before .before .before .before .before .before .before .before .before .before .flush-ws .ensures .under 0 .left, c .before .before .before .before .before .pat .ensures .under 0 .left), c .before .before .before .before .before .pat .ensures .under 0 .ready (c .before .if2 .left))
 
 -- src/lib.rt:1311:9
@@ -6215,13 +6215,13 @@ mc-same-length-3 : (t : ℕ) → mc-lts.Need-same-length-3 (
   flush-ws-reads.Learnt,
   pat-reads.Asked,
   pat-reads.Learnt,
-  ea-below t,
-  ea.Post,
+  e-below t,
+  e.Post,
   close-at-reads.Asked,
   close-at-reads.Learnt,
 ) (mc-at t) mc.Post
 mc-same-length-3 t c =
-    c .before .before .before .before .ea .ensures .under 0 .len ∙ (c .before .before .before .before .before .before .before .before .before .before .pat .ensures .under 0 .len ∙ (c .before .before .before .before .before .before .before .before .before .before .before .before .before .before .before .before .flush-ws .ensures .under 0 .len))
+    c .before .before .before .before .e .ensures .under 0 .len ∙ (c .before .before .before .before .before .before .before .before .before .before .pat .ensures .under 0 .len ∙ (c .before .before .before .before .before .before .before .before .before .before .before .before .before .before .before .before .flush-ws .ensures .under 0 .len))
 
 -- src/lib.rt:1311:9
 mc-returns-3 : (t : ℕ) → mc-lts.Need-returns-3 (
@@ -6229,28 +6229,28 @@ mc-returns-3 : (t : ℕ) → mc-lts.Need-returns-3 (
   flush-ws-reads.Learnt,
   pat-reads.Asked,
   pat-reads.Learnt,
-  ea-below t,
-  ea.Post,
+  e-below t,
+  e.Post,
   close-at-reads.Asked,
   close-at-reads.Learnt,
 ) (mc-at t) mc.Post
 unfolding match-case
 mc-returns-3 t c =
-    scoped (c .before .before .before .before .before .before .before .before .before .before .before .before .before .before .before .before .flush-ws .ensures) (c .before .before .before .before .before .before .before .before .before .before .before .before .if1 .left) (both (c .before .before .before .before .before .before .before .before .before .before .pat .ensures .under _) (c .before .before .before .before .before .before .if2 .left) (cut (c .before .before .before .before .ea .ensures .under _) (c .if3 .taken)))
+    scoped (c .before .before .before .before .before .before .before .before .before .before .before .before .before .before .before .before .flush-ws .ensures) (c .before .before .before .before .before .before .before .before .before .before .before .before .if1 .left) (both (c .before .before .before .before .before .before .before .before .before .before .pat .ensures .under _) (c .before .before .before .before .before .before .if2 .left) (cut (c .before .before .before .before .e .ensures .under _) (c .if3 .taken)))
 
 -- src/lib.rt:1313:5
-mc-ea-requires-2 : (t : ℕ) → mc-lts.Need-ea-requires-2 (
+mc-e-requires-2 : (t : ℕ) → mc-lts.Need-e-requires-2 (
   flush-ws-reads.Asked,
   flush-ws-reads.Learnt,
   pat-reads.Asked,
   pat-reads.Learnt,
-  ea-below t,
-  ea.Post,
+  e-below t,
+  e.Post,
   close-at-reads.Asked,
   close-at-reads.Learnt,
 ) (mc-at t) mc.Post
-mc-ea-requires-2 t c κs =
-    (omega (arith, c .before .before .before .before .before .before .before .before .before .before .before .before .before .before .before .before .before .before .before .before .before .before .pre .0, c .before .before .before .before .before .before .before .before .before .before .before .before .before .before .before .before .before .flush-ws .ensures .under 0 .left, c .before .before .before .before .before .before .before .before .before .before .before .pat .ensures .under 0 .left, c .before .before .before .before .before .ea .ensures .under 0 .left), c .before .before .before .before .before .ea .ensures .under 0 .ready (c .before .if3 .left))
+mc-e-requires-2 t c κs =
+    (omega (arith, c .before .before .before .before .before .before .before .before .before .before .before .before .before .before .before .before .before .before .before .before .before .before .pre .0, c .before .before .before .before .before .before .before .before .before .before .before .before .before .before .before .before .before .flush-ws .ensures .under 0 .left, c .before .before .before .before .before .before .before .before .before .before .before .pat .ensures .under 0 .left, c .before .before .before .before .before .e .ensures .under 0 .left), c .before .before .before .before .before .e .ensures .under 0 .ready (c .before .if3 .left))
 
 -- src/lib.rt:1315:9
 mc-same-length-4 : (t : ℕ) → mc-lts.Need-same-length-4 (
@@ -6258,13 +6258,13 @@ mc-same-length-4 : (t : ℕ) → mc-lts.Need-same-length-4 (
   flush-ws-reads.Learnt,
   pat-reads.Asked,
   pat-reads.Learnt,
-  ea-below t,
-  ea.Post,
+  e-below t,
+  e.Post,
   close-at-reads.Asked,
   close-at-reads.Learnt,
 ) (mc-at t) mc.Post
 mc-same-length-4 t c =
-    c .before .before .before .before .ea2 .ensures .under 0 .len ∙ (c .before .before .before .before .before .before .before .before .before .before .ea .ensures .under 0 .len ∙ (c .before .before .before .before .before .before .before .before .before .before .before .before .before .before .before .before .pat .ensures .under 0 .len ∙ (c .before .before .before .before .before .before .before .before .before .before .before .before .before .before .before .before .before .before .before .before .before .before .flush-ws .ensures .under 0 .len)))
+    c .before .before .before .before .e2 .ensures .under 0 .len ∙ (c .before .before .before .before .before .before .before .before .before .before .e .ensures .under 0 .len ∙ (c .before .before .before .before .before .before .before .before .before .before .before .before .before .before .before .before .pat .ensures .under 0 .len ∙ (c .before .before .before .before .before .before .before .before .before .before .before .before .before .before .before .before .before .before .before .before .before .before .flush-ws .ensures .under 0 .len)))
 
 -- src/lib.rt:1315:9
 mc-returns-4 : (t : ℕ) → mc-lts.Need-returns-4 (
@@ -6272,14 +6272,14 @@ mc-returns-4 : (t : ℕ) → mc-lts.Need-returns-4 (
   flush-ws-reads.Learnt,
   pat-reads.Asked,
   pat-reads.Learnt,
-  ea-below t,
-  ea.Post,
+  e-below t,
+  e.Post,
   close-at-reads.Asked,
   close-at-reads.Learnt,
 ) (mc-at t) mc.Post
 unfolding match-case
 mc-returns-4 t c =
-    scoped (c .before .before .before .before .before .before .before .before .before .before .before .before .before .before .before .before .before .before .before .before .before .before .flush-ws .ensures) (c .before .before .before .before .before .before .before .before .before .before .before .before .before .before .before .before .before .before .if1 .left) (both (c .before .before .before .before .before .before .before .before .before .before .before .before .before .before .before .before .pat .ensures .under _) (c .before .before .before .before .before .before .before .before .before .before .before .before .if2 .left) (both (c .before .before .before .before .before .before .before .before .before .before .ea .ensures .under _) (c .before .before .before .before .before .before .if3 .left) (cut (c .before .before .before .before .ea2 .ensures .under _) (c .if4 .taken))))
+    scoped (c .before .before .before .before .before .before .before .before .before .before .before .before .before .before .before .before .before .before .before .before .before .before .flush-ws .ensures) (c .before .before .before .before .before .before .before .before .before .before .before .before .before .before .before .before .before .before .if1 .left) (both (c .before .before .before .before .before .before .before .before .before .before .before .before .before .before .before .before .pat .ensures .under _) (c .before .before .before .before .before .before .before .before .before .before .before .before .if2 .left) (both (c .before .before .before .before .before .before .before .before .before .before .e .ensures .under _) (c .before .before .before .before .before .before .if3 .left) (cut (c .before .before .before .before .e2 .ensures .under _) (c .if4 .taken))))
 
 -- src/lib.rt:1317:5
 mc-close-at-requires : (t : ℕ) → mc-lts.Need-close-at-requires (
@@ -6287,13 +6287,13 @@ mc-close-at-requires : (t : ℕ) → mc-lts.Need-close-at-requires (
   flush-ws-reads.Learnt,
   pat-reads.Asked,
   pat-reads.Learnt,
-  ea-below t,
-  ea.Post,
+  e-below t,
+  e.Post,
   close-at-reads.Asked,
   close-at-reads.Learnt,
 ) (mc-at t) mc.Post
 mc-close-at-requires t c κs =
-    (step-marked (c .before .before .before .before .before .ea2 .ensures .under _) (c .before .if4 .left) (step-marked (c .before .before .before .before .before .before .before .before .before .before .before .ea .ensures .under _) (c .before .before .before .before .before .before .before .if3 .left) (step-marked (c .before .before .before .before .before .before .before .before .before .before .before .before .before .before .before .before .before .pat .ensures .under _) (c .before .before .before .before .before .before .before .before .before .before .before .before .before .if2 .left) (marked-now))), c .before .before .before .before .before .ea2 .ensures .under 0 .ready (c .before .if4 .left))
+    (step-marked (c .before .before .before .before .before .e2 .ensures .under _) (c .before .if4 .left) (step-marked (c .before .before .before .before .before .before .before .before .before .before .before .e .ensures .under _) (c .before .before .before .before .before .before .before .if3 .left) (step-marked (c .before .before .before .before .before .before .before .before .before .before .before .before .before .before .before .before .before .pat .ensures .under _) (c .before .before .before .before .before .before .before .before .before .before .before .before .before .if2 .left) (marked-now))), c .before .before .before .before .before .e2 .ensures .under 0 .ready (c .before .if4 .left))
 
 -- src/lib.rt:1296:1
 mc-same-length-5 : (t : ℕ) → mc-lts.Need-same-length-5 (
@@ -6301,13 +6301,13 @@ mc-same-length-5 : (t : ℕ) → mc-lts.Need-same-length-5 (
   flush-ws-reads.Learnt,
   pat-reads.Asked,
   pat-reads.Learnt,
-  ea-below t,
-  ea.Post,
+  e-below t,
+  e.Post,
   close-at-reads.Asked,
   close-at-reads.Learnt,
 ) (mc-at t) mc.Post
 mc-same-length-5 t c =
-    c .before .before .close-at .ensures .len ∙ (c .before .before .before .before .before .before .before .before .ea2 .ensures .under 0 .len ∙ (c .before .before .before .before .before .before .before .before .before .before .before .before .before .before .ea .ensures .under 0 .len ∙ (c .before .before .before .before .before .before .before .before .before .before .before .before .before .before .before .before .before .before .before .before .pat .ensures .under 0 .len ∙ (c .before .before .before .before .before .before .before .before .before .before .before .before .before .before .before .before .before .before .before .before .before .before .before .before .before .before .flush-ws .ensures .under 0 .len))))
+    c .before .before .close-at .ensures .len ∙ (c .before .before .before .before .before .before .before .before .e2 .ensures .under 0 .len ∙ (c .before .before .before .before .before .before .before .before .before .before .before .before .before .before .e .ensures .under 0 .len ∙ (c .before .before .before .before .before .before .before .before .before .before .before .before .before .before .before .before .before .before .before .before .pat .ensures .under 0 .len ∙ (c .before .before .before .before .before .before .before .before .before .before .before .before .before .before .before .before .before .before .before .before .before .before .before .before .before .before .flush-ws .ensures .under 0 .len))))
 
 -- src/lib.rt:1296:1
 mc-returns-5 : (t : ℕ) → mc-lts.Need-returns-5 (
@@ -6315,14 +6315,14 @@ mc-returns-5 : (t : ℕ) → mc-lts.Need-returns-5 (
   flush-ws-reads.Learnt,
   pat-reads.Asked,
   pat-reads.Learnt,
-  ea-below t,
-  ea.Post,
+  e-below t,
+  e.Post,
   close-at-reads.Asked,
   close-at-reads.Learnt,
 ) (mc-at t) mc.Post
 unfolding match-case
 mc-returns-5 t c =
-    scoped (c .before .before .before .before .before .before .before .before .before .before .before .before .before .before .before .before .before .before .before .before .before .before .before .before .before .before .flush-ws .ensures) (c .before .before .before .before .before .before .before .before .before .before .before .before .before .before .before .before .before .before .before .before .before .before .if1 .left) (both (c .before .before .before .before .before .before .before .before .before .before .before .before .before .before .before .before .before .before .before .before .pat .ensures .under _) (c .before .before .before .before .before .before .before .before .before .before .before .before .before .before .before .before .if2 .left) (both (c .before .before .before .before .before .before .before .before .before .before .before .before .before .before .ea .ensures .under _) (c .before .before .before .before .before .before .before .before .before .before .if3 .left) (both (c .before .before .before .before .before .before .before .before .ea2 .ensures .under _) (c .before .before .before .before .if4 .left) (c .before .before .close-at .ensures))))
+    scoped (c .before .before .before .before .before .before .before .before .before .before .before .before .before .before .before .before .before .before .before .before .before .before .before .before .before .before .flush-ws .ensures) (c .before .before .before .before .before .before .before .before .before .before .before .before .before .before .before .before .before .before .before .before .before .before .if1 .left) (both (c .before .before .before .before .before .before .before .before .before .before .before .before .before .before .before .before .before .before .before .before .pat .ensures .under _) (c .before .before .before .before .before .before .before .before .before .before .before .before .before .before .before .before .if2 .left) (both (c .before .before .before .before .before .before .before .before .before .before .before .before .before .before .e .ensures .under _) (c .before .before .before .before .before .before .before .before .before .before .if3 .left) (both (c .before .before .before .before .before .before .before .before .e2 .ensures .under _) (c .before .before .before .before .if4 .left) (c .before .before .close-at .ensures))))
 
 abbrev ml-Inv-loop : ml-lts.InvT-loop
 ml-Inv-loop kinds lens table₀ t₀ table t =
@@ -6562,100 +6562,100 @@ ml-returns-3 t c =
     record { under = λ m. inv-end (c .before .before .before .before .loop .inv .under _) (last (ask-glued (c .before .before .before .peek .ensures) (c .before .before .glued .ensures) (if-no (sym (c .before .is-pat .ensures) ∙ c .if1 .left) (nothing (c .before .before .before .before .loop .inv .ready)))) (c .before .before .before .before .loop .inv .ready .going)) }
 
 -- src/lib.rt:1523:28
-ne-add-bi : (t : ℕ) → ne-lts.Need-add-bi (
+n-add-bi : (t : ℕ) → n-lts.Need-add-bi (
   bi-below t,
   bi.Post,
   close-at-reads.Asked,
   close-at-reads.Learnt,
-) (ne-at t) ne.Post
-ne-add-bi t c =
+) (n-at t) n.Post
+n-add-bi t c =
     search needs
 
 -- src/lib.rt:1523:9
-ne-bi-requires : (t : ℕ) → ne-lts.Need-bi-requires (
+n-bi-requires : (t : ℕ) → n-lts.Need-bi-requires (
   bi-below t,
   bi.Post,
   close-at-reads.Asked,
   close-at-reads.Learnt,
-) (ne-at t) ne.Post
-ne-bi-requires t c κs =
+) (n-at t) n.Post
+n-bi-requires t c κs =
     (omega (arith, c .before .before .before .before .before .pre .0), (c .before .before .before .before .before .pre .1 .2, c .before .before .before .before .before .pre .1 .3))
 
 -- src/lib.rt:1525:9
-ne-same-length : (t : ℕ) → ne-lts.Need-same-length (
+n-same-length : (t : ℕ) → n-lts.Need-same-length (
   bi-below t,
   bi.Post,
   close-at-reads.Asked,
   close-at-reads.Learnt,
-) (ne-at t) ne.Post
-ne-same-length t c =
+) (n-at t) n.Post
+n-same-length t c =
     c .before .before .before .before .bi .ensures .under 0 .len
 
 -- src/lib.rt:1525:9
-ne-returns : (t : ℕ) → ne-lts.Need-returns (
+n-returns : (t : ℕ) → n-lts.Need-returns (
   bi-below t,
   bi.Post,
   close-at-reads.Asked,
   close-at-reads.Learnt,
-) (ne-at t) ne.Post
+) (n-at t) n.Post
 unfolding nest
-ne-returns t c =
+n-returns t c =
     cut (c .before .before .before .before .bi .ensures .under _) (c .if1 .taken)
 
 -- src/lib.rt:1528:9
-ne-close-at-requires : (t : ℕ) → ne-lts.Need-close-at-requires (
+n-close-at-requires : (t : ℕ) → n-lts.Need-close-at-requires (
   bi-below t,
   bi.Post,
   close-at-reads.Asked,
   close-at-reads.Learnt,
-) (ne-at t) ne.Post
-ne-close-at-requires t c κs =
+) (n-at t) n.Post
+n-close-at-requires t c κs =
     (step-marked (c .before .before .before .before .before .before .before .bi .ensures .under _) (c .before .before .before .if1 .left) (c .before .before .before .before .before .before .before .before .before .before .before .before .before .pre .1 .0), c .before .before .before .before .before .before .before .bi .ensures .under 0 .ready (c .before .before .before .if1 .left))
 
 -- src/lib.rt:1528:9
-ne-same-length-2 : (t : ℕ) → ne-lts.Need-same-length-2 (
+n-same-length-2 : (t : ℕ) → n-lts.Need-same-length-2 (
   bi-below t,
   bi.Post,
   close-at-reads.Asked,
   close-at-reads.Learnt,
-) (ne-at t) ne.Post
-ne-same-length-2 t c =
+) (n-at t) n.Post
+n-same-length-2 t c =
     c .before .before .close-at .ensures .len ∙ (c .before .before .before .before .before .before .before .before .before .before .bi .ensures .under 0 .len)
 
 -- src/lib.rt:1528:9
-ne-returns-2 : (t : ℕ) → ne-lts.Need-returns-2 (
+n-returns-2 : (t : ℕ) → n-lts.Need-returns-2 (
   bi-below t,
   bi.Post,
   close-at-reads.Asked,
   close-at-reads.Learnt,
-) (ne-at t) ne.Post
+) (n-at t) n.Post
 unfolding nest
-ne-returns-2 t c =
+n-returns-2 t c =
     both (c .before .before .before .before .before .before .before .before .before .before .bi .ensures .under _) (c .before .before .before .before .before .before .if1 .left) (if-yes (eq-eqb _ _ (c .before .before .before .before .if2 .taken)) (c .before .before .close-at .ensures))
 
 -- src/lib.rt:1509:1
-ne-same-length-3 : (t : ℕ) → ne-lts.Need-same-length-3 (
+n-same-length-3 : (t : ℕ) → n-lts.Need-same-length-3 (
   bi-below t,
   bi.Post,
   close-at-reads.Asked,
   close-at-reads.Learnt,
-) (ne-at t) ne.Post
-ne-same-length-3 t c =
+) (n-at t) n.Post
+n-same-length-3 t c =
     c .before .before .before .before .before .before .bi .ensures .under 0 .len
 
 -- src/lib.rt:1509:1
-ne-returns-3 : (t : ℕ) → ne-lts.Need-returns-3 (
+n-returns-3 : (t : ℕ) → n-lts.Need-returns-3 (
   bi-below t,
   bi.Post,
   close-at-reads.Asked,
   close-at-reads.Learnt,
-) (ne-at t) ne.Post
+) (n-at t) n.Post
 unfolding nest
-ne-returns-3 t c =
+n-returns-3 t c =
     both (c .before .before .before .before .before .before .bi .ensures .under _) (c .before .before .if1 .left) (if-no (ne-eqb _ _ (c .if2 .left)) (nothing (c .before .before .before .before .before .before .bi .ensures .under 0 .ready (c .before .before .if1 .left))))
 
 -- src/lib.rt:258:9
-oa-close-at-requires : (t : ℕ) → oa-lts.Need-close-at-requires (
+o-close-at-requires : (t : ℕ) → o-lts.Need-close-at-requires (
   close-at-reads.Asked,
   close-at-reads.Learnt,
   bump-reads.Asked,
@@ -6664,12 +6664,12 @@ oa-close-at-requires : (t : ℕ) → oa-lts.Need-close-at-requires (
   ex.Post,
   finish-reads.Asked,
   finish-reads.Learnt,
-) (oa-at t) oa.Post
-oa-close-at-requires t c κs =
+) (o-at t) o.Post
+o-close-at-requires t c κs =
     (c .before .before .before .before .pre .1 .0, c .before .before .before .before .pre .1 .1)
 
 -- src/lib.rt:260:9
-oa-same-length : (t : ℕ) → oa-lts.Need-same-length (
+o-same-length : (t : ℕ) → o-lts.Need-same-length (
   close-at-reads.Asked,
   close-at-reads.Learnt,
   bump-reads.Asked,
@@ -6678,12 +6678,12 @@ oa-same-length : (t : ℕ) → oa-lts.Need-same-length (
   ex.Post,
   finish-reads.Asked,
   finish-reads.Learnt,
-) (oa-at t) oa.Post
-oa-same-length t c =
+) (o-at t) o.Post
+o-same-length t c =
     c .before .before .before .before .close-at .ensures .len
 
 -- src/lib.rt:260:9
-oa-returns : (t : ℕ) → oa-lts.Need-returns (
+o-returns : (t : ℕ) → o-lts.Need-returns (
   close-at-reads.Asked,
   close-at-reads.Learnt,
   bump-reads.Asked,
@@ -6692,13 +6692,13 @@ oa-returns : (t : ℕ) → oa-lts.Need-returns (
   ex.Post,
   finish-reads.Asked,
   finish-reads.Learnt,
-) (oa-at t) oa.Post
+) (o-at t) o.Post
 unfolding outer-assign
-oa-returns t c =
+o-returns t c =
     cut (c .before .before .before .before .close-at .ensures) (c .if1 .taken)
 
 -- src/lib.rt:262:5
-oa-bump-requires : (t : ℕ) → oa-lts.Need-bump-requires (
+o-bump-requires : (t : ℕ) → o-lts.Need-bump-requires (
   close-at-reads.Asked,
   close-at-reads.Learnt,
   bump-reads.Asked,
@@ -6707,12 +6707,12 @@ oa-bump-requires : (t : ℕ) → oa-lts.Need-bump-requires (
   ex.Post,
   finish-reads.Asked,
   finish-reads.Learnt,
-) (oa-at t) oa.Post
-oa-bump-requires t c κs =
+) (o-at t) o.Post
+o-bump-requires t c κs =
     c .before .before .before .before .before .close-at .ensures .ready (c .before .if1 .left)
 
 -- src/lib.rt:264:9
-oa-same-length-2 : (t : ℕ) → oa-lts.Need-same-length-2 (
+o-same-length-2 : (t : ℕ) → o-lts.Need-same-length-2 (
   close-at-reads.Asked,
   close-at-reads.Learnt,
   bump-reads.Asked,
@@ -6721,12 +6721,12 @@ oa-same-length-2 : (t : ℕ) → oa-lts.Need-same-length-2 (
   ex.Post,
   finish-reads.Asked,
   finish-reads.Learnt,
-) (oa-at t) oa.Post
-oa-same-length-2 t c =
+) (o-at t) o.Post
+o-same-length-2 t c =
     c .before .before .before .before .bump .ensures .under 0 .len ∙ (c .before .before .before .before .before .before .before .before .before .before .close-at .ensures .len)
 
 -- src/lib.rt:264:9
-oa-returns-2 : (t : ℕ) → oa-lts.Need-returns-2 (
+o-returns-2 : (t : ℕ) → o-lts.Need-returns-2 (
   close-at-reads.Asked,
   close-at-reads.Learnt,
   bump-reads.Asked,
@@ -6735,13 +6735,13 @@ oa-returns-2 : (t : ℕ) → oa-lts.Need-returns-2 (
   ex.Post,
   finish-reads.Asked,
   finish-reads.Learnt,
-) (oa-at t) oa.Post
+) (o-at t) o.Post
 unfolding outer-assign
-oa-returns-2 t c =
+o-returns-2 t c =
     both (c .before .before .before .before .before .before .before .before .before .before .close-at .ensures) (c .before .before .before .before .before .before .if1 .left) (cut (c .before .before .before .before .bump .ensures .under _) (c .if2 .taken))
 
 -- src/lib.rt:266:5
-oa-ex-requires : (t : ℕ) → oa-lts.Need-ex-requires (
+o-ex-requires : (t : ℕ) → o-lts.Need-ex-requires (
   close-at-reads.Asked,
   close-at-reads.Learnt,
   bump-reads.Asked,
@@ -6750,12 +6750,12 @@ oa-ex-requires : (t : ℕ) → oa-lts.Need-ex-requires (
   ex.Post,
   finish-reads.Asked,
   finish-reads.Learnt,
-) (oa-at t) oa.Post
-oa-ex-requires t c κs =
+) (o-at t) o.Post
+o-ex-requires t c κs =
     (omega (arith, c .before .before .before .before .before .before .before .before .before .before .before .before .before .before .before .before .pre .0, c .before .before .before .before .before .before .before .before .before .before .before .close-at .ensures .left, c .before .before .before .before .before .bump .ensures .under 0 .left), c .before .before .before .before .before .bump .ensures .under 0 .ready (c .before .if2 .left))
 
 -- src/lib.rt:268:9
-oa-same-length-3 : (t : ℕ) → oa-lts.Need-same-length-3 (
+o-same-length-3 : (t : ℕ) → o-lts.Need-same-length-3 (
   close-at-reads.Asked,
   close-at-reads.Learnt,
   bump-reads.Asked,
@@ -6764,12 +6764,12 @@ oa-same-length-3 : (t : ℕ) → oa-lts.Need-same-length-3 (
   ex.Post,
   finish-reads.Asked,
   finish-reads.Learnt,
-) (oa-at t) oa.Post
-oa-same-length-3 t c =
+) (o-at t) o.Post
+o-same-length-3 t c =
     c .before .before .before .before .ex .ensures .under 0 .len ∙ (c .before .before .before .before .before .before .before .before .before .before .bump .ensures .under 0 .len ∙ (c .before .before .before .before .before .before .before .before .before .before .before .before .before .before .before .before .close-at .ensures .len))
 
 -- src/lib.rt:268:9
-oa-returns-3 : (t : ℕ) → oa-lts.Need-returns-3 (
+o-returns-3 : (t : ℕ) → o-lts.Need-returns-3 (
   close-at-reads.Asked,
   close-at-reads.Learnt,
   bump-reads.Asked,
@@ -6778,13 +6778,13 @@ oa-returns-3 : (t : ℕ) → oa-lts.Need-returns-3 (
   ex.Post,
   finish-reads.Asked,
   finish-reads.Learnt,
-) (oa-at t) oa.Post
+) (o-at t) o.Post
 unfolding outer-assign
-oa-returns-3 t c =
+o-returns-3 t c =
     both (c .before .before .before .before .before .before .before .before .before .before .before .before .before .before .before .before .close-at .ensures) (c .before .before .before .before .before .before .before .before .before .before .before .before .if1 .left) (both (c .before .before .before .before .before .before .before .before .before .before .bump .ensures .under _) (c .before .before .before .before .before .before .if2 .left) (cut (c .before .before .before .before .ex .ensures .under _) (c .if3 .taken)))
 
 -- src/lib.rt:270:5
-oa-finish-requires : (t : ℕ) → oa-lts.Need-finish-requires (
+o-finish-requires : (t : ℕ) → o-lts.Need-finish-requires (
   close-at-reads.Asked,
   close-at-reads.Learnt,
   bump-reads.Asked,
@@ -6793,12 +6793,12 @@ oa-finish-requires : (t : ℕ) → oa-lts.Need-finish-requires (
   ex.Post,
   finish-reads.Asked,
   finish-reads.Learnt,
-) (oa-at t) oa.Post
-oa-finish-requires t c κs =
+) (o-at t) o.Post
+o-finish-requires t c κs =
     (step-marked (c .before .before .before .before .before .ex .ensures .under _) (c .before .if3 .left) (step-marked (c .before .before .before .before .before .before .before .before .before .before .before .bump .ensures .under _) (c .before .before .before .before .before .before .before .if2 .left) (step-marked (c .before .before .before .before .before .before .before .before .before .before .before .before .before .before .before .before .before .close-at .ensures) (c .before .before .before .before .before .before .before .before .before .before .before .before .before .if1 .left) (c .before .before .before .before .before .before .before .before .before .before .before .before .before .before .before .before .before .before .before .before .before .before .pre .1 .0))), c .before .before .before .before .before .ex .ensures .under 0 .ready (c .before .if3 .left))
 
 -- src/lib.rt:246:1
-oa-same-length-4 : (t : ℕ) → oa-lts.Need-same-length-4 (
+o-same-length-4 : (t : ℕ) → o-lts.Need-same-length-4 (
   close-at-reads.Asked,
   close-at-reads.Learnt,
   bump-reads.Asked,
@@ -6807,12 +6807,12 @@ oa-same-length-4 : (t : ℕ) → oa-lts.Need-same-length-4 (
   ex.Post,
   finish-reads.Asked,
   finish-reads.Learnt,
-) (oa-at t) oa.Post
-oa-same-length-4 t c =
+) (o-at t) o.Post
+o-same-length-4 t c =
     c .before .before .finish .ensures .len ∙ (c .before .before .before .before .before .before .before .before .ex .ensures .under 0 .len ∙ (c .before .before .before .before .before .before .before .before .before .before .before .before .before .before .bump .ensures .under 0 .len ∙ (c .before .before .before .before .before .before .before .before .before .before .before .before .before .before .before .before .before .before .before .before .close-at .ensures .len)))
 
 -- src/lib.rt:246:1
-oa-returns-4 : (t : ℕ) → oa-lts.Need-returns-4 (
+o-returns-4 : (t : ℕ) → o-lts.Need-returns-4 (
   close-at-reads.Asked,
   close-at-reads.Learnt,
   bump-reads.Asked,
@@ -6821,9 +6821,9 @@ oa-returns-4 : (t : ℕ) → oa-lts.Need-returns-4 (
   ex.Post,
   finish-reads.Asked,
   finish-reads.Learnt,
-) (oa-at t) oa.Post
+) (o-at t) o.Post
 unfolding outer-assign
-oa-returns-4 t c =
+o-returns-4 t c =
     both (c .before .before .before .before .before .before .before .before .before .before .before .before .before .before .before .before .before .before .before .before .close-at .ensures) (c .before .before .before .before .before .before .before .before .before .before .before .before .before .before .before .before .if1 .left) (both (c .before .before .before .before .before .before .before .before .before .before .before .before .before .before .bump .ensures .under _) (c .before .before .before .before .before .before .before .before .before .before .if2 .left) (both (c .before .before .before .before .before .before .before .before .ex .ensures .under _) (c .before .before .before .before .if3 .left) (c .before .before .finish .ensures)))
 
 -- src/lib.rt:204:9
@@ -7004,8 +7004,8 @@ oc-ch-requires : (t : ℕ) → oc-lts.Need-ch-requires (
   ch.Post,
   peek-reads.Asked,
   peek-reads.Learnt,
-  oa-below t,
-  oa.Post,
+  o-below t,
+  o.Post,
   ot-below t,
   ot.Post,
 ) (oc-at t) oc.Post
@@ -7018,8 +7018,8 @@ oc-same-length : (t : ℕ) → oc-lts.Need-same-length (
   ch.Post,
   peek-reads.Asked,
   peek-reads.Learnt,
-  oa-below t,
-  oa.Post,
+  o-below t,
+  o.Post,
   ot-below t,
   ot.Post,
 ) (oc-at t) oc.Post
@@ -7032,8 +7032,8 @@ oc-returns : (t : ℕ) → oc-lts.Need-returns (
   ch.Post,
   peek-reads.Asked,
   peek-reads.Learnt,
-  oa-below t,
-  oa.Post,
+  o-below t,
+  o.Post,
   ot-below t,
   ot.Post,
 ) (oc-at t) oc.Post
@@ -7047,8 +7047,8 @@ oc-peek-requires : (t : ℕ) → oc-lts.Need-peek-requires (
   ch.Post,
   peek-reads.Asked,
   peek-reads.Learnt,
-  oa-below t,
-  oa.Post,
+  o-below t,
+  o.Post,
   ot-below t,
   ot.Post,
 ) (oc-at t) oc.Post
@@ -7056,17 +7056,17 @@ oc-peek-requires t c κs =
     (c .before .before .before .before .ch .ensures .ready (c .if1 .left)) .looks
 
 -- src/lib.rt:241:9
-oc-oa-requires : (t : ℕ) → oc-lts.Need-oa-requires (
+oc-o-requires : (t : ℕ) → oc-lts.Need-o-requires (
   ch-below t,
   ch.Post,
   peek-reads.Asked,
   peek-reads.Learnt,
-  oa-below t,
-  oa.Post,
+  o-below t,
+  o.Post,
   ot-below t,
   ot.Post,
 ) (oc-at t) oc.Post
-oc-oa-requires t c κs =
+oc-o-requires t c κs =
     (omega (arith, c .before .before .before .before .before .before .before .before .before .before .before .before .pre .0, c .before .before .before .before .before .before .before .ch .ensures .left), (step-marked (c .before .before .before .before .before .before .before .ch .ensures) (c .before .before .before .if1 .left) (c .before .before .before .before .before .before .before .before .before .before .before .before .pre .1 .0), c .before .before .before .before .before .before .before .ch .ensures .ready (c .before .before .before .if1 .left)))
 
 -- src/lib.rt:241:9
@@ -7075,13 +7075,13 @@ oc-same-length-2 : (t : ℕ) → oc-lts.Need-same-length-2 (
   ch.Post,
   peek-reads.Asked,
   peek-reads.Learnt,
-  oa-below t,
-  oa.Post,
+  o-below t,
+  o.Post,
   ot-below t,
   ot.Post,
 ) (oc-at t) oc.Post
 oc-same-length-2 t c =
-    c .before .before .oa .ensures .len ∙ (c .before .before .before .before .before .before .before .before .before .before .ch .ensures .len)
+    c .before .before .o .ensures .len ∙ (c .before .before .before .before .before .before .before .before .before .before .ch .ensures .len)
 
 -- src/lib.rt:241:9
 oc-returns-2 : (t : ℕ) → oc-lts.Need-returns-2 (
@@ -7089,14 +7089,14 @@ oc-returns-2 : (t : ℕ) → oc-lts.Need-returns-2 (
   ch.Post,
   peek-reads.Asked,
   peek-reads.Learnt,
-  oa-below t,
-  oa.Post,
+  o-below t,
+  o.Post,
   ot-below t,
   ot.Post,
 ) (oc-at t) oc.Post
 unfolding outer-chain
 oc-returns-2 t c =
-    both (c .before .before .before .before .before .before .before .before .before .before .ch .ensures) (c .before .before .before .before .before .before .if1 .left) (ask (c .before .before .before .before .before .peek .ensures) (if-yes (eq-eqb _ _ (c .before .before .before .before .if2 .taken)) (c .before .before .oa .ensures)))
+    both (c .before .before .before .before .before .before .before .before .before .before .ch .ensures) (c .before .before .before .before .before .before .if1 .left) (ask (c .before .before .before .before .before .peek .ensures) (if-yes (eq-eqb _ _ (c .before .before .before .before .if2 .taken)) (c .before .before .o .ensures)))
 
 -- src/lib.rt:243:5
 oc-ot-requires : (t : ℕ) → oc-lts.Need-ot-requires (
@@ -7104,8 +7104,8 @@ oc-ot-requires : (t : ℕ) → oc-lts.Need-ot-requires (
   ch.Post,
   peek-reads.Asked,
   peek-reads.Learnt,
-  oa-below t,
-  oa.Post,
+  o-below t,
+  o.Post,
   ot-below t,
   ot.Post,
 ) (oc-at t) oc.Post
@@ -7118,8 +7118,8 @@ oc-same-length-3 : (t : ℕ) → oc-lts.Need-same-length-3 (
   ch.Post,
   peek-reads.Asked,
   peek-reads.Learnt,
-  oa-below t,
-  oa.Post,
+  o-below t,
+  o.Post,
   ot-below t,
   ot.Post,
 ) (oc-at t) oc.Post
@@ -7132,8 +7132,8 @@ oc-returns-3 : (t : ℕ) → oc-lts.Need-returns-3 (
   ch.Post,
   peek-reads.Asked,
   peek-reads.Learnt,
-  oa-below t,
-  oa.Post,
+  o-below t,
+  o.Post,
   ot-below t,
   ot.Post,
 ) (oc-at t) oc.Post
@@ -7157,8 +7157,8 @@ of-loop-holds : (t : ℕ) → of-lts.Need-loop-holds (
   is-object-key-reads.Learnt,
   bump-reads.Asked,
   bump-reads.Learnt,
-  ea-below t,
-  ea.Post,
+  e-below t,
+  e.Post,
   bump-while-reads.Asked,
   bump-while-reads.Learnt,
 ) (of-at t) of.Post of-Inv-loop of-μ-loop
@@ -7174,8 +7174,8 @@ of-peek-requires : (t : ℕ) → of-lts.Need-peek-requires (
   is-object-key-reads.Learnt,
   bump-reads.Asked,
   bump-reads.Learnt,
-  ea-below t,
-  ea.Post,
+  e-below t,
+  e.Post,
   bump-while-reads.Asked,
   bump-while-reads.Learnt,
 ) (of-at t) of.Post of-Inv-loop of-μ-loop
@@ -7190,8 +7190,8 @@ of-is-object-key-requires : (t : ℕ) → of-lts.Need-is-object-key-requires (
   is-object-key-reads.Learnt,
   bump-reads.Asked,
   bump-reads.Learnt,
-  ea-below t,
-  ea.Post,
+  e-below t,
+  e.Post,
   bump-while-reads.Asked,
   bump-while-reads.Learnt,
 ) (of-at t) of.Post of-Inv-loop of-μ-loop
@@ -7206,8 +7206,8 @@ of-bump-requires : (t : ℕ) → of-lts.Need-bump-requires (
   is-object-key-reads.Learnt,
   bump-reads.Asked,
   bump-reads.Learnt,
-  ea-below t,
-  ea.Post,
+  e-below t,
+  e.Post,
   bump-while-reads.Asked,
   bump-while-reads.Learnt,
 ) (of-at t) of.Post of-Inv-loop of-μ-loop
@@ -7222,8 +7222,8 @@ of-same-length : (t : ℕ) → of-lts.Need-same-length (
   is-object-key-reads.Learnt,
   bump-reads.Asked,
   bump-reads.Learnt,
-  ea-below t,
-  ea.Post,
+  e-below t,
+  e.Post,
   bump-while-reads.Asked,
   bump-while-reads.Learnt,
 ) (of-at t) of.Post of-Inv-loop of-μ-loop
@@ -7238,8 +7238,8 @@ of-returns : (t : ℕ) → of-lts.Need-returns (
   is-object-key-reads.Learnt,
   bump-reads.Asked,
   bump-reads.Learnt,
-  ea-below t,
-  ea.Post,
+  e-below t,
+  e.Post,
   bump-while-reads.Asked,
   bump-while-reads.Learnt,
 ) (of-at t) of.Post of-Inv-loop of-μ-loop
@@ -7248,19 +7248,19 @@ of-returns t c =
     record { under = λ m. inv-end (c .before .before .before .before .before .before .before .before .before .loop .inv .under _) (last-cut (ask (c .before .before .before .before .before .before .before .before .peek .ensures) (if-yes (sym (c .before .before .before .before .before .before .before .is-object-key .ensures) ∙ c .before .before .before .before .before .before .if1 .taken) (cut (cut (c .before .before .before .before .bump .ensures .under _) (c .if2 .taken)) (c .if2 .taken)))) (c .if2 .taken)) }
 
 -- src/lib.rt:1038:9
-of-ea-requires : (t : ℕ) → of-lts.Need-ea-requires (
+of-e-requires : (t : ℕ) → of-lts.Need-e-requires (
   peek-reads.Asked,
   peek-reads.Learnt,
   is-object-key-reads.Asked,
   is-object-key-reads.Learnt,
   bump-reads.Asked,
   bump-reads.Learnt,
-  ea-below t,
-  ea.Post,
+  e-below t,
+  e.Post,
   bump-while-reads.Asked,
   bump-while-reads.Learnt,
 ) (of-at t) of.Post of-Inv-loop of-μ-loop
-of-ea-requires t c κs =
+of-e-requires t c κs =
     (omega (arith, c .before .before .before .before .before .before .before .before .before .before .before .before .before .before .pre .0, c .before .before .before .before .before .bump .ensures .under 0 .left, c .before .before .before .before .before .before .before .before .before .before .loop .inv .under 0 .left), c .before .before .before .before .before .bump .ensures .under 0 .ready (c .before .if2 .left))
 
 -- src/lib.rt:1040:13
@@ -7271,13 +7271,13 @@ of-same-length-2 : (t : ℕ) → of-lts.Need-same-length-2 (
   is-object-key-reads.Learnt,
   bump-reads.Asked,
   bump-reads.Learnt,
-  ea-below t,
-  ea.Post,
+  e-below t,
+  e.Post,
   bump-while-reads.Asked,
   bump-while-reads.Learnt,
 ) (of-at t) of.Post of-Inv-loop of-μ-loop
 of-same-length-2 t c =
-    c .before .before .before .before .ea .ensures .under 0 .len ∙ (c .before .before .before .before .before .before .before .before .before .before .bump .ensures .under 0 .len ∙ (c .before .before .before .before .before .before .before .before .before .before .before .before .before .before .before .loop .inv .under 0 .len))
+    c .before .before .before .before .e .ensures .under 0 .len ∙ (c .before .before .before .before .before .before .before .before .before .before .bump .ensures .under 0 .len ∙ (c .before .before .before .before .before .before .before .before .before .before .before .before .before .before .before .loop .inv .under 0 .len))
 
 -- src/lib.rt:1040:13
 of-returns-2 : (t : ℕ) → of-lts.Need-returns-2 (
@@ -7287,14 +7287,14 @@ of-returns-2 : (t : ℕ) → of-lts.Need-returns-2 (
   is-object-key-reads.Learnt,
   bump-reads.Asked,
   bump-reads.Learnt,
-  ea-below t,
-  ea.Post,
+  e-below t,
+  e.Post,
   bump-while-reads.Asked,
   bump-while-reads.Learnt,
 ) (of-at t) of.Post of-Inv-loop of-μ-loop
 unfolding object-fields while-turn object-field
 of-returns-2 t c =
-    record { under = λ m. inv-end (c .before .before .before .before .before .before .before .before .before .before .before .before .before .before .before .loop .inv .under _) (last-cut (ask (c .before .before .before .before .before .before .before .before .before .before .before .before .before .before .peek .ensures) (if-yes (sym (c .before .before .before .before .before .before .before .before .before .before .before .before .before .is-object-key .ensures) ∙ c .before .before .before .before .before .before .before .before .before .before .before .before .if1 .taken) (cut (both (c .before .before .before .before .before .before .before .before .before .before .bump .ensures .under _) (c .before .before .before .before .before .before .if2 .left) (cut (c .before .before .before .before .ea .ensures .under _) (c .if3 .taken))) (c .if3 .taken)))) (c .if3 .taken)) }
+    record { under = λ m. inv-end (c .before .before .before .before .before .before .before .before .before .before .before .before .before .before .before .loop .inv .under _) (last-cut (ask (c .before .before .before .before .before .before .before .before .before .before .before .before .before .before .peek .ensures) (if-yes (sym (c .before .before .before .before .before .before .before .before .before .before .before .before .before .is-object-key .ensures) ∙ c .before .before .before .before .before .before .before .before .before .before .before .before .if1 .taken) (cut (both (c .before .before .before .before .before .before .before .before .before .before .bump .ensures .under _) (c .before .before .before .before .before .before .if2 .left) (cut (c .before .before .before .before .e .ensures .under _) (c .if3 .taken))) (c .if3 .taken)))) (c .if3 .taken)) }
 
 -- src/lib.rt:1042:9
 of-bump-while-requires : (t : ℕ) → of-lts.Need-bump-while-requires (
@@ -7304,13 +7304,13 @@ of-bump-while-requires : (t : ℕ) → of-lts.Need-bump-while-requires (
   is-object-key-reads.Learnt,
   bump-reads.Asked,
   bump-reads.Learnt,
-  ea-below t,
-  ea.Post,
+  e-below t,
+  e.Post,
   bump-while-reads.Asked,
   bump-while-reads.Learnt,
 ) (of-at t) of.Post of-Inv-loop of-μ-loop
 of-bump-while-requires t c κs =
-    (omega arith, c .before .before .before .before .before .ea .ensures .under 0 .ready (c .before .if3 .left))
+    (omega arith, c .before .before .before .before .before .e .ensures .under 0 .ready (c .before .if3 .left))
 
 -- src/lib.rt:1044:13
 of-same-length-3 : (t : ℕ) → of-lts.Need-same-length-3 (
@@ -7320,13 +7320,13 @@ of-same-length-3 : (t : ℕ) → of-lts.Need-same-length-3 (
   is-object-key-reads.Learnt,
   bump-reads.Asked,
   bump-reads.Learnt,
-  ea-below t,
-  ea.Post,
+  e-below t,
+  e.Post,
   bump-while-reads.Asked,
   bump-while-reads.Learnt,
 ) (of-at t) of.Post of-Inv-loop of-μ-loop
 of-same-length-3 t c =
-    c .before .before .before .before .bump-while .ensures .under 0 .len ∙ (c .before .before .before .before .before .before .before .before .before .before .ea .ensures .under 0 .len ∙ (c .before .before .before .before .before .before .before .before .before .before .before .before .before .before .before .before .bump .ensures .under 0 .len ∙ (c .before .before .before .before .before .before .before .before .before .before .before .before .before .before .before .before .before .before .before .before .before .loop .inv .under 0 .len)))
+    c .before .before .before .before .bump-while .ensures .under 0 .len ∙ (c .before .before .before .before .before .before .before .before .before .before .e .ensures .under 0 .len ∙ (c .before .before .before .before .before .before .before .before .before .before .before .before .before .before .before .before .bump .ensures .under 0 .len ∙ (c .before .before .before .before .before .before .before .before .before .before .before .before .before .before .before .before .before .before .before .before .before .loop .inv .under 0 .len)))
 
 -- src/lib.rt:1044:13
 of-returns-3 : (t : ℕ) → of-lts.Need-returns-3 (
@@ -7336,14 +7336,14 @@ of-returns-3 : (t : ℕ) → of-lts.Need-returns-3 (
   is-object-key-reads.Learnt,
   bump-reads.Asked,
   bump-reads.Learnt,
-  ea-below t,
-  ea.Post,
+  e-below t,
+  e.Post,
   bump-while-reads.Asked,
   bump-while-reads.Learnt,
 ) (of-at t) of.Post of-Inv-loop of-μ-loop
 unfolding object-fields while-turn object-field
 of-returns-3 t c =
-    record { under = λ m. inv-end (c .before .before .before .before .before .before .before .before .before .before .before .before .before .before .before .before .before .before .before .before .before .loop .inv .under _) (last-cut (ask (c .before .before .before .before .before .before .before .before .before .before .before .before .before .before .before .before .before .before .before .before .peek .ensures) (if-yes (sym (c .before .before .before .before .before .before .before .before .before .before .before .before .before .before .before .before .before .before .before .is-object-key .ensures) ∙ c .before .before .before .before .before .before .before .before .before .before .before .before .before .before .before .before .before .before .if1 .taken) (cut (both (c .before .before .before .before .before .before .before .before .before .before .before .before .before .before .before .before .bump .ensures .under _) (c .before .before .before .before .before .before .before .before .before .before .before .before .if2 .left) (both (c .before .before .before .before .before .before .before .before .before .before .ea .ensures .under _) (c .before .before .before .before .before .before .if3 .left) (refusal (ends (c .before .before .before .before .bump-while .ensures .under _)) (c .if4 .taken)))) (c .if4 .taken)))) (c .if4 .taken)) }
+    record { under = λ m. inv-end (c .before .before .before .before .before .before .before .before .before .before .before .before .before .before .before .before .before .before .before .before .before .loop .inv .under _) (last-cut (ask (c .before .before .before .before .before .before .before .before .before .before .before .before .before .before .before .before .before .before .before .before .peek .ensures) (if-yes (sym (c .before .before .before .before .before .before .before .before .before .before .before .before .before .before .before .before .before .before .before .is-object-key .ensures) ∙ c .before .before .before .before .before .before .before .before .before .before .before .before .before .before .before .before .before .before .if1 .taken) (cut (both (c .before .before .before .before .before .before .before .before .before .before .before .before .before .before .before .before .bump .ensures .under _) (c .before .before .before .before .before .before .before .before .before .before .before .before .if2 .left) (both (c .before .before .before .before .before .before .before .before .before .before .e .ensures .under _) (c .before .before .before .before .before .before .if3 .left) (refusal (ends (c .before .before .before .before .bump-while .ensures .under _)) (c .if4 .taken)))) (c .if4 .taken)))) (c .if4 .taken)) }
 
 -- src/lib.rt:1033:5
 of-loop-less : (t : ℕ) → of-lts.Need-loop-less (
@@ -7353,13 +7353,13 @@ of-loop-less : (t : ℕ) → of-lts.Need-loop-less (
   is-object-key-reads.Learnt,
   bump-reads.Asked,
   bump-reads.Learnt,
-  ea-below t,
-  ea.Post,
+  e-below t,
+  e.Post,
   bump-while-reads.Asked,
   bump-while-reads.Learnt,
 ) (of-at t) of.Post of-Inv-loop of-μ-loop
 of-loop-less t c =
-    burns (c .before .before .before .before .bump-while .ensures .under 0 .ready (c .if4 .left)) (and-on (and-on (goes-some (c .before .before .before .before .before .before .before .before .before .before .before .before .before .before .before .before .bump .ensures .under 0) (c .before .before .before .before .before .before .before .before .before .before .before .before .if2 .left) (c .before .before .before .before .before .before .before .before .before .before .before .before .before .before .before .before .before .before .before .before .peek .ensures) (object-key-some _ (sym (c .before .before .before .before .before .before .before .before .before .before .before .before .before .before .before .before .before .before .before .is-object-key .ensures) ∙ c .before .before .before .before .before .before .before .before .before .before .before .before .before .before .before .before .before .before .if1 .taken)) bump-further) (c .before .before .before .before .before .before .before .before .before .before .ea .ensures .under 0) (c .before .before .before .before .before .before .if3 .left)) (c .before .before .before .before .bump-while .ensures .under 0) (c .if4 .left))
+    burns (c .before .before .before .before .bump-while .ensures .under 0 .ready (c .if4 .left)) (and-on (and-on (goes-some (c .before .before .before .before .before .before .before .before .before .before .before .before .before .before .before .before .bump .ensures .under 0) (c .before .before .before .before .before .before .before .before .before .before .before .before .if2 .left) (c .before .before .before .before .before .before .before .before .before .before .before .before .before .before .before .before .before .before .before .before .peek .ensures) (object-key-some _ (sym (c .before .before .before .before .before .before .before .before .before .before .before .before .before .before .before .before .before .before .before .is-object-key .ensures) ∙ c .before .before .before .before .before .before .before .before .before .before .before .before .before .before .before .before .before .before .if1 .taken)) bump-further) (c .before .before .before .before .before .before .before .before .before .before .e .ensures .under 0) (c .before .before .before .before .before .before .if3 .left)) (c .before .before .before .before .bump-while .ensures .under 0) (c .if4 .left))
 
 -- src/lib.rt:1033:5
 of-loop-again : (t : ℕ) → of-lts.Need-loop-again (
@@ -7369,14 +7369,14 @@ of-loop-again : (t : ℕ) → of-lts.Need-loop-again (
   is-object-key-reads.Learnt,
   bump-reads.Asked,
   bump-reads.Learnt,
-  ea-below t,
-  ea.Post,
+  e-below t,
+  e.Post,
   bump-while-reads.Asked,
   bump-while-reads.Learnt,
 ) (of-at t) of.Post of-Inv-loop of-μ-loop
 unfolding object-fields while-turn object-field
 of-loop-again t c =
-    record { ready = c .before .before .before .before .bump-while .ensures .under 0 .ready (c .if4 .left); under = λ m. inv-again (c .before .before .before .before .before .before .before .before .before .before .before .before .before .before .before .before .before .before .before .before .before .loop .inv .under m) (ask (c .before .before .before .before .before .before .before .before .before .before .before .before .before .before .before .before .before .before .before .before .peek .ensures) (if-yes (sym (c .before .before .before .before .before .before .before .before .before .before .before .before .before .before .before .before .before .before .before .is-object-key .ensures) ∙ c .before .before .before .before .before .before .before .before .before .before .before .before .before .before .before .before .before .before .if1 .taken) (both (both (c .before .before .before .before .before .before .before .before .before .before .before .before .before .before .before .before .bump .ensures .under _) (c .before .before .before .before .before .before .before .before .before .before .before .before .if2 .left) (both (c .before .before .before .before .before .before .before .before .before .before .ea .ensures .under _) (c .before .before .before .before .before .before .if3 .left) (ends (c .before .before .before .before .bump-while .ensures .under _)))) (c .if4 .left) (nothing (c .before .before .before .before .bump-while .ensures .under 0 .ready (c .if4 .left)))))) (c .if4 .left) (and-on (and-on (goes-some (c .before .before .before .before .before .before .before .before .before .before .before .before .before .before .before .before .bump .ensures .under 0) (c .before .before .before .before .before .before .before .before .before .before .before .before .if2 .left) (c .before .before .before .before .before .before .before .before .before .before .before .before .before .before .before .before .before .before .before .before .peek .ensures) (object-key-some _ (sym (c .before .before .before .before .before .before .before .before .before .before .before .before .before .before .before .before .before .before .before .is-object-key .ensures) ∙ c .before .before .before .before .before .before .before .before .before .before .before .before .before .before .before .before .before .before .if1 .taken)) bump-further) (c .before .before .before .before .before .before .before .before .before .before .ea .ensures .under 0) (c .before .before .before .before .before .before .if3 .left)) (c .before .before .before .before .bump-while .ensures .under 0) (c .if4 .left)) }
+    record { ready = c .before .before .before .before .bump-while .ensures .under 0 .ready (c .if4 .left); under = λ m. inv-again (c .before .before .before .before .before .before .before .before .before .before .before .before .before .before .before .before .before .before .before .before .before .loop .inv .under m) (ask (c .before .before .before .before .before .before .before .before .before .before .before .before .before .before .before .before .before .before .before .before .peek .ensures) (if-yes (sym (c .before .before .before .before .before .before .before .before .before .before .before .before .before .before .before .before .before .before .before .is-object-key .ensures) ∙ c .before .before .before .before .before .before .before .before .before .before .before .before .before .before .before .before .before .before .if1 .taken) (both (both (c .before .before .before .before .before .before .before .before .before .before .before .before .before .before .before .before .bump .ensures .under _) (c .before .before .before .before .before .before .before .before .before .before .before .before .if2 .left) (both (c .before .before .before .before .before .before .before .before .before .before .e .ensures .under _) (c .before .before .before .before .before .before .if3 .left) (ends (c .before .before .before .before .bump-while .ensures .under _)))) (c .if4 .left) (nothing (c .before .before .before .before .bump-while .ensures .under 0 .ready (c .if4 .left)))))) (c .if4 .left) (and-on (and-on (goes-some (c .before .before .before .before .before .before .before .before .before .before .before .before .before .before .before .before .bump .ensures .under 0) (c .before .before .before .before .before .before .before .before .before .before .before .before .if2 .left) (c .before .before .before .before .before .before .before .before .before .before .before .before .before .before .before .before .before .before .before .before .peek .ensures) (object-key-some _ (sym (c .before .before .before .before .before .before .before .before .before .before .before .before .before .before .before .before .before .before .before .is-object-key .ensures) ∙ c .before .before .before .before .before .before .before .before .before .before .before .before .before .before .before .before .before .before .if1 .taken)) bump-further) (c .before .before .before .before .before .before .before .before .before .before .e .ensures .under 0) (c .before .before .before .before .before .before .if3 .left)) (c .before .before .before .before .bump-while .ensures .under 0) (c .if4 .left)) }
 
 -- src/lib.rt:1028:1
 of-same-length-4 : (t : ℕ) → of-lts.Need-same-length-4 (
@@ -7386,8 +7386,8 @@ of-same-length-4 : (t : ℕ) → of-lts.Need-same-length-4 (
   is-object-key-reads.Learnt,
   bump-reads.Asked,
   bump-reads.Learnt,
-  ea-below t,
-  ea.Post,
+  e-below t,
+  e.Post,
   bump-while-reads.Asked,
   bump-while-reads.Learnt,
 ) (of-at t) of.Post of-Inv-loop of-μ-loop
@@ -7402,8 +7402,8 @@ of-returns-4 : (t : ℕ) → of-lts.Need-returns-4 (
   is-object-key-reads.Learnt,
   bump-reads.Asked,
   bump-reads.Learnt,
-  ea-below t,
-  ea.Post,
+  e-below t,
+  e.Post,
   bump-while-reads.Asked,
   bump-while-reads.Learnt,
 ) (of-at t) of.Post of-Inv-loop of-μ-loop
@@ -7839,7 +7839,7 @@ ou-returns-2 t c =
     record { under = λ m. entered (c .before .before .before .before .if1 .left) (c .before .before .ob .ensures .under _) }
 
 -- src/lib.rt:715:13
-pa-fo-requires : (t : ℕ) → pa-lts.Need-fo-requires (
+p-fo-requires : (t : ℕ) → p-lts.Need-fo-requires (
   fo-below t,
   fo.Post,
   finish-reads.Asked,
@@ -7850,12 +7850,12 @@ pa-fo-requires : (t : ℕ) → pa-lts.Need-fo-requires (
   ma.Post,
   pl-below t,
   pl.Post,
-) (pa-at t) pa.Post
-pa-fo-requires t c κs =
+) (p-at t) p.Post
+p-fo-requires t c κs =
     (omega (arith, c .before .before .before .before .before .pre .0), c .before .before .before .before .before .pre .1 .1)
 
 -- src/lib.rt:717:13
-pa-same-length : (t : ℕ) → pa-lts.Need-same-length (
+p-same-length : (t : ℕ) → p-lts.Need-same-length (
   fo-below t,
   fo.Post,
   finish-reads.Asked,
@@ -7866,12 +7866,12 @@ pa-same-length : (t : ℕ) → pa-lts.Need-same-length (
   ma.Post,
   pl-below t,
   pl.Post,
-) (pa-at t) pa.Post
-pa-same-length t c =
+) (p-at t) p.Post
+p-same-length t c =
     c .before .before .before .before .fo .ensures .under 0 .len
 
 -- src/lib.rt:717:13
-pa-returns : (t : ℕ) → pa-lts.Need-returns (
+p-returns : (t : ℕ) → p-lts.Need-returns (
   fo-below t,
   fo.Post,
   finish-reads.Asked,
@@ -7882,13 +7882,13 @@ pa-returns : (t : ℕ) → pa-lts.Need-returns (
   ma.Post,
   pl-below t,
   pl.Post,
-) (pa-at t) pa.Post
+) (p-at t) p.Post
 unfolding primary-block
-pa-returns t c =
+p-returns t c =
     if-yes (eq-eqb _ _ (c .before .before .before .before .before .before .if1 .taken)) (cut (c .before .before .before .before .fo .ensures .under _) (c .if2 .taken))
 
 -- src/lib.rt:719:9
-pa-finish-requires : (t : ℕ) → pa-lts.Need-finish-requires (
+p-finish-requires : (t : ℕ) → p-lts.Need-finish-requires (
   fo-below t,
   fo.Post,
   finish-reads.Asked,
@@ -7899,12 +7899,12 @@ pa-finish-requires : (t : ℕ) → pa-lts.Need-finish-requires (
   ma.Post,
   pl-below t,
   pl.Post,
-) (pa-at t) pa.Post
-pa-finish-requires t c κs =
+) (p-at t) p.Post
+p-finish-requires t c κs =
     (step-marked (c .before .before .before .before .before .fo .ensures .under _) (c .before .if2 .left) (c .before .before .before .before .before .before .before .before .before .before .before .pre .1 .0), c .before .before .before .before .before .fo .ensures .under 0 .ready (c .before .if2 .left))
 
 -- src/lib.rt:719:9
-pa-same-length-2 : (t : ℕ) → pa-lts.Need-same-length-2 (
+p-same-length-2 : (t : ℕ) → p-lts.Need-same-length-2 (
   fo-below t,
   fo.Post,
   finish-reads.Asked,
@@ -7915,12 +7915,12 @@ pa-same-length-2 : (t : ℕ) → pa-lts.Need-same-length-2 (
   ma.Post,
   pl-below t,
   pl.Post,
-) (pa-at t) pa.Post
-pa-same-length-2 t c =
+) (p-at t) p.Post
+p-same-length-2 t c =
     c .before .before .finish .ensures .len ∙ (c .before .before .before .before .before .before .before .before .fo .ensures .under 0 .len)
 
 -- src/lib.rt:719:9
-pa-returns-2 : (t : ℕ) → pa-lts.Need-returns-2 (
+p-returns-2 : (t : ℕ) → p-lts.Need-returns-2 (
   fo-below t,
   fo.Post,
   finish-reads.Asked,
@@ -7931,13 +7931,13 @@ pa-returns-2 : (t : ℕ) → pa-lts.Need-returns-2 (
   ma.Post,
   pl-below t,
   pl.Post,
-) (pa-at t) pa.Post
+) (p-at t) p.Post
 unfolding primary-block
-pa-returns-2 t c =
+p-returns-2 t c =
     if-yes (eq-eqb _ _ (c .before .before .before .before .before .before .before .before .before .before .if1 .taken)) (both (c .before .before .before .before .before .before .before .before .fo .ensures .under _) (c .before .before .before .before .if2 .left) (c .before .before .finish .ensures))
 
 -- src/lib.rt:722:13
-pa-se-requires : (t : ℕ) → pa-lts.Need-se-requires (
+p-se-requires : (t : ℕ) → p-lts.Need-se-requires (
   fo-below t,
   fo.Post,
   finish-reads.Asked,
@@ -7948,12 +7948,12 @@ pa-se-requires : (t : ℕ) → pa-lts.Need-se-requires (
   ma.Post,
   pl-below t,
   pl.Post,
-) (pa-at t) pa.Post
-pa-se-requires t c κs =
+) (p-at t) p.Post
+p-se-requires t c κs =
     (omega (arith, c .before .before .before .before .before .before .pre .0), c .before .before .before .before .before .before .pre .1 .1)
 
 -- src/lib.rt:724:13
-pa-same-length-3 : (t : ℕ) → pa-lts.Need-same-length-3 (
+p-same-length-3 : (t : ℕ) → p-lts.Need-same-length-3 (
   fo-below t,
   fo.Post,
   finish-reads.Asked,
@@ -7964,12 +7964,12 @@ pa-same-length-3 : (t : ℕ) → pa-lts.Need-same-length-3 (
   ma.Post,
   pl-below t,
   pl.Post,
-) (pa-at t) pa.Post
-pa-same-length-3 t c =
+) (p-at t) p.Post
+p-same-length-3 t c =
     c .before .before .before .before .se .ensures .under 0 .len
 
 -- src/lib.rt:724:13
-pa-returns-3 : (t : ℕ) → pa-lts.Need-returns-3 (
+p-returns-3 : (t : ℕ) → p-lts.Need-returns-3 (
   fo-below t,
   fo.Post,
   finish-reads.Asked,
@@ -7980,13 +7980,13 @@ pa-returns-3 : (t : ℕ) → pa-lts.Need-returns-3 (
   ma.Post,
   pl-below t,
   pl.Post,
-) (pa-at t) pa.Post
+) (p-at t) p.Post
 unfolding primary-block
-pa-returns-3 t c =
+p-returns-3 t c =
     if-no (ne-eqb _ _ (c .before .before .before .before .before .before .before .if1 .left)) (if-yes (eq-eqb _ _ (c .before .before .before .before .before .before .if3 .taken)) (cut (c .before .before .before .before .se .ensures .under _) (c .if4 .taken)))
 
 -- src/lib.rt:726:9
-pa-finish-requires-2 : (t : ℕ) → pa-lts.Need-finish-requires-2 (
+p-finish-requires-2 : (t : ℕ) → p-lts.Need-finish-requires-2 (
   fo-below t,
   fo.Post,
   finish-reads.Asked,
@@ -7997,12 +7997,12 @@ pa-finish-requires-2 : (t : ℕ) → pa-lts.Need-finish-requires-2 (
   ma.Post,
   pl-below t,
   pl.Post,
-) (pa-at t) pa.Post
-pa-finish-requires-2 t c κs =
+) (p-at t) p.Post
+p-finish-requires-2 t c κs =
     (step-marked (c .before .before .before .before .before .se .ensures .under _) (c .before .if4 .left) (c .before .before .before .before .before .before .before .before .before .before .before .before .pre .1 .0), c .before .before .before .before .before .se .ensures .under 0 .ready (c .before .if4 .left))
 
 -- src/lib.rt:726:9
-pa-same-length-4 : (t : ℕ) → pa-lts.Need-same-length-4 (
+p-same-length-4 : (t : ℕ) → p-lts.Need-same-length-4 (
   fo-below t,
   fo.Post,
   finish-reads.Asked,
@@ -8013,12 +8013,12 @@ pa-same-length-4 : (t : ℕ) → pa-lts.Need-same-length-4 (
   ma.Post,
   pl-below t,
   pl.Post,
-) (pa-at t) pa.Post
-pa-same-length-4 t c =
+) (p-at t) p.Post
+p-same-length-4 t c =
     c .before .before .finish2 .ensures .len ∙ (c .before .before .before .before .before .before .before .before .se .ensures .under 0 .len)
 
 -- src/lib.rt:726:9
-pa-returns-4 : (t : ℕ) → pa-lts.Need-returns-4 (
+p-returns-4 : (t : ℕ) → p-lts.Need-returns-4 (
   fo-below t,
   fo.Post,
   finish-reads.Asked,
@@ -8029,13 +8029,13 @@ pa-returns-4 : (t : ℕ) → pa-lts.Need-returns-4 (
   ma.Post,
   pl-below t,
   pl.Post,
-) (pa-at t) pa.Post
+) (p-at t) p.Post
 unfolding primary-block
-pa-returns-4 t c =
+p-returns-4 t c =
     if-no (ne-eqb _ _ (c .before .before .before .before .before .before .before .before .before .before .before .if1 .left)) (if-yes (eq-eqb _ _ (c .before .before .before .before .before .before .before .before .before .before .if3 .taken)) (both (c .before .before .before .before .before .before .before .before .se .ensures .under _) (c .before .before .before .before .if4 .left) (c .before .before .finish2 .ensures)))
 
 -- src/lib.rt:729:13
-pa-ma-requires : (t : ℕ) → pa-lts.Need-ma-requires (
+p-ma-requires : (t : ℕ) → p-lts.Need-ma-requires (
   fo-below t,
   fo.Post,
   finish-reads.Asked,
@@ -8046,12 +8046,12 @@ pa-ma-requires : (t : ℕ) → pa-lts.Need-ma-requires (
   ma.Post,
   pl-below t,
   pl.Post,
-) (pa-at t) pa.Post
-pa-ma-requires t c κs =
+) (p-at t) p.Post
+p-ma-requires t c κs =
     (omega (arith, c .before .before .before .before .before .before .before .pre .0), c .before .before .before .before .before .before .before .pre .1 .1)
 
 -- src/lib.rt:731:13
-pa-same-length-5 : (t : ℕ) → pa-lts.Need-same-length-5 (
+p-same-length-5 : (t : ℕ) → p-lts.Need-same-length-5 (
   fo-below t,
   fo.Post,
   finish-reads.Asked,
@@ -8062,12 +8062,12 @@ pa-same-length-5 : (t : ℕ) → pa-lts.Need-same-length-5 (
   ma.Post,
   pl-below t,
   pl.Post,
-) (pa-at t) pa.Post
-pa-same-length-5 t c =
+) (p-at t) p.Post
+p-same-length-5 t c =
     c .before .before .before .before .ma .ensures .under 0 .len
 
 -- src/lib.rt:731:13
-pa-returns-5 : (t : ℕ) → pa-lts.Need-returns-5 (
+p-returns-5 : (t : ℕ) → p-lts.Need-returns-5 (
   fo-below t,
   fo.Post,
   finish-reads.Asked,
@@ -8078,13 +8078,13 @@ pa-returns-5 : (t : ℕ) → pa-lts.Need-returns-5 (
   ma.Post,
   pl-below t,
   pl.Post,
-) (pa-at t) pa.Post
+) (p-at t) p.Post
 unfolding primary-block
-pa-returns-5 t c =
+p-returns-5 t c =
     if-no (ne-eqb _ _ (c .before .before .before .before .before .before .before .before .if1 .left)) (if-no (ne-eqb _ _ (c .before .before .before .before .before .before .before .if3 .left)) (if-yes (eq-eqb _ _ (c .before .before .before .before .before .before .if5 .taken)) (cut (c .before .before .before .before .ma .ensures .under _) (c .if6 .taken))))
 
 -- src/lib.rt:733:9
-pa-finish-requires-3 : (t : ℕ) → pa-lts.Need-finish-requires-3 (
+p-finish-requires-3 : (t : ℕ) → p-lts.Need-finish-requires-3 (
   fo-below t,
   fo.Post,
   finish-reads.Asked,
@@ -8095,12 +8095,12 @@ pa-finish-requires-3 : (t : ℕ) → pa-lts.Need-finish-requires-3 (
   ma.Post,
   pl-below t,
   pl.Post,
-) (pa-at t) pa.Post
-pa-finish-requires-3 t c κs =
+) (p-at t) p.Post
+p-finish-requires-3 t c κs =
     (step-marked (c .before .before .before .before .before .ma .ensures .under _) (c .before .if6 .left) (c .before .before .before .before .before .before .before .before .before .before .before .before .before .pre .1 .0), c .before .before .before .before .before .ma .ensures .under 0 .ready (c .before .if6 .left))
 
 -- src/lib.rt:733:9
-pa-same-length-6 : (t : ℕ) → pa-lts.Need-same-length-6 (
+p-same-length-6 : (t : ℕ) → p-lts.Need-same-length-6 (
   fo-below t,
   fo.Post,
   finish-reads.Asked,
@@ -8111,12 +8111,12 @@ pa-same-length-6 : (t : ℕ) → pa-lts.Need-same-length-6 (
   ma.Post,
   pl-below t,
   pl.Post,
-) (pa-at t) pa.Post
-pa-same-length-6 t c =
+) (p-at t) p.Post
+p-same-length-6 t c =
     c .before .before .finish3 .ensures .len ∙ (c .before .before .before .before .before .before .before .before .ma .ensures .under 0 .len)
 
 -- src/lib.rt:733:9
-pa-returns-6 : (t : ℕ) → pa-lts.Need-returns-6 (
+p-returns-6 : (t : ℕ) → p-lts.Need-returns-6 (
   fo-below t,
   fo.Post,
   finish-reads.Asked,
@@ -8127,13 +8127,13 @@ pa-returns-6 : (t : ℕ) → pa-lts.Need-returns-6 (
   ma.Post,
   pl-below t,
   pl.Post,
-) (pa-at t) pa.Post
+) (p-at t) p.Post
 unfolding primary-block
-pa-returns-6 t c =
+p-returns-6 t c =
     if-no (ne-eqb _ _ (c .before .before .before .before .before .before .before .before .before .before .before .before .if1 .left)) (if-no (ne-eqb _ _ (c .before .before .before .before .before .before .before .before .before .before .before .if3 .left)) (if-yes (eq-eqb _ _ (c .before .before .before .before .before .before .before .before .before .before .if5 .taken)) (both (c .before .before .before .before .before .before .before .before .ma .ensures .under _) (c .before .before .before .before .if6 .left) (c .before .before .finish3 .ensures))))
 
 -- src/lib.rt:735:5
-pa-pl-requires : (t : ℕ) → pa-lts.Need-pl-requires (
+p-pl-requires : (t : ℕ) → p-lts.Need-pl-requires (
   fo-below t,
   fo.Post,
   finish-reads.Asked,
@@ -8144,12 +8144,12 @@ pa-pl-requires : (t : ℕ) → pa-lts.Need-pl-requires (
   ma.Post,
   pl-below t,
   pl.Post,
-) (pa-at t) pa.Post
-pa-pl-requires t c κs =
+) (p-at t) p.Post
+p-pl-requires t c κs =
     (omega (arith, c .before .before .before .before .before .before .before .pre .0), (c .before .before .before .before .before .before .before .pre .1 .0, c .before .before .before .before .before .before .before .pre .1 .1))
 
 -- src/lib.rt:699:1
-pa-same-length-7 : (t : ℕ) → pa-lts.Need-same-length-7 (
+p-same-length-7 : (t : ℕ) → p-lts.Need-same-length-7 (
   fo-below t,
   fo.Post,
   finish-reads.Asked,
@@ -8160,12 +8160,12 @@ pa-same-length-7 : (t : ℕ) → pa-lts.Need-same-length-7 (
   ma.Post,
   pl-below t,
   pl.Post,
-) (pa-at t) pa.Post
-pa-same-length-7 t c =
+) (p-at t) p.Post
+p-same-length-7 t c =
     c .before .before .pl .ensures .len
 
 -- src/lib.rt:699:1
-pa-returns-7 : (t : ℕ) → pa-lts.Need-returns-7 (
+p-returns-7 : (t : ℕ) → p-lts.Need-returns-7 (
   fo-below t,
   fo.Post,
   finish-reads.Asked,
@@ -8176,21 +8176,21 @@ pa-returns-7 : (t : ℕ) → pa-lts.Need-returns-7 (
   ma.Post,
   pl-below t,
   pl.Post,
-) (pa-at t) pa.Post
+) (p-at t) p.Post
 unfolding primary-block
-pa-returns-7 t c =
+p-returns-7 t c =
     if-no (ne-eqb _ _ (c .before .before .before .before .before .before .if1 .left)) (if-no (ne-eqb _ _ (c .before .before .before .before .before .if3 .left)) (if-no (ne-eqb _ _ (c .before .before .before .before .if5 .left)) (c .before .before .pl .ensures)))
 
 -- src/lib.rt:675:13
 pg-bump-requires : (t : ℕ) → pg-lts.Need-bump-requires (
   bump-reads.Asked,
   bump-reads.Learnt,
-  ai-below t,
-  ai.Post,
+  a-below t,
+  a.Post,
   finish-reads.Asked,
   finish-reads.Learnt,
-  pa-below t,
-  pa.Post,
+  p-below t,
+  p.Post,
 ) (pg-at t) pg.Post
 pg-bump-requires t c κs =
     c .before .before .before .before .before .pre .1 .1
@@ -8199,12 +8199,12 @@ pg-bump-requires t c κs =
 pg-same-length : (t : ℕ) → pg-lts.Need-same-length (
   bump-reads.Asked,
   bump-reads.Learnt,
-  ai-below t,
-  ai.Post,
+  a-below t,
+  a.Post,
   finish-reads.Asked,
   finish-reads.Learnt,
-  pa-below t,
-  pa.Post,
+  p-below t,
+  p.Post,
 ) (pg-at t) pg.Post
 pg-same-length t c =
     c .before .before .before .before .bump .ensures .under 0 .len
@@ -8213,113 +8213,113 @@ pg-same-length t c =
 pg-returns : (t : ℕ) → pg-lts.Need-returns (
   bump-reads.Asked,
   bump-reads.Learnt,
-  ai-below t,
-  ai.Post,
+  a-below t,
+  a.Post,
   finish-reads.Asked,
   finish-reads.Learnt,
-  pa-below t,
-  pa.Post,
+  p-below t,
+  p.Post,
 ) (pg-at t) pg.Post
 unfolding primary-give
 pg-returns t c =
     if-yes (eq-eqb _ _ (c .before .before .before .before .before .before .if1 .taken)) (cut (c .before .before .before .before .bump .ensures .under _) (c .if2 .taken))
 
 -- src/lib.rt:679:9
-pg-ai-requires : (t : ℕ) → pg-lts.Need-ai-requires (
+pg-a-requires : (t : ℕ) → pg-lts.Need-a-requires (
   bump-reads.Asked,
   bump-reads.Learnt,
-  ai-below t,
-  ai.Post,
+  a-below t,
+  a.Post,
   finish-reads.Asked,
   finish-reads.Learnt,
-  pa-below t,
-  pa.Post,
+  p-below t,
+  p.Post,
 ) (pg-at t) pg.Post
-pg-ai-requires t c κs =
+pg-a-requires t c κs =
     (omega (arith, c .before .before .before .before .before .before .before .before .before .before .before .pre .0, c .before .before .before .before .before .bump .ensures .under 0 .left), c .before .before .before .before .before .bump .ensures .under 0 .ready (c .before .if2 .left))
 
 -- src/lib.rt:681:13
 pg-same-length-2 : (t : ℕ) → pg-lts.Need-same-length-2 (
   bump-reads.Asked,
   bump-reads.Learnt,
-  ai-below t,
-  ai.Post,
+  a-below t,
+  a.Post,
   finish-reads.Asked,
   finish-reads.Learnt,
-  pa-below t,
-  pa.Post,
+  p-below t,
+  p.Post,
 ) (pg-at t) pg.Post
 pg-same-length-2 t c =
-    c .before .before .before .before .ai .ensures .under 0 .len ∙ (c .before .before .before .before .before .before .before .before .before .before .bump .ensures .under 0 .len)
+    c .before .before .before .before .a .ensures .under 0 .len ∙ (c .before .before .before .before .before .before .before .before .before .before .bump .ensures .under 0 .len)
 
 -- src/lib.rt:681:13
 pg-returns-2 : (t : ℕ) → pg-lts.Need-returns-2 (
   bump-reads.Asked,
   bump-reads.Learnt,
-  ai-below t,
-  ai.Post,
+  a-below t,
+  a.Post,
   finish-reads.Asked,
   finish-reads.Learnt,
-  pa-below t,
-  pa.Post,
+  p-below t,
+  p.Post,
 ) (pg-at t) pg.Post
 unfolding primary-give
 pg-returns-2 t c =
-    if-yes (eq-eqb _ _ (c .before .before .before .before .before .before .before .before .before .before .before .before .if1 .taken)) (both (c .before .before .before .before .before .before .before .before .before .before .bump .ensures .under _) (c .before .before .before .before .before .before .if2 .left) (cut (c .before .before .before .before .ai .ensures .under _) (c .if3 .taken)))
+    if-yes (eq-eqb _ _ (c .before .before .before .before .before .before .before .before .before .before .before .before .if1 .taken)) (both (c .before .before .before .before .before .before .before .before .before .before .bump .ensures .under _) (c .before .before .before .before .before .before .if2 .left) (cut (c .before .before .before .before .a .ensures .under _) (c .if3 .taken)))
 
 -- src/lib.rt:683:9
 pg-finish-requires : (t : ℕ) → pg-lts.Need-finish-requires (
   bump-reads.Asked,
   bump-reads.Learnt,
-  ai-below t,
-  ai.Post,
+  a-below t,
+  a.Post,
   finish-reads.Asked,
   finish-reads.Learnt,
-  pa-below t,
-  pa.Post,
+  p-below t,
+  p.Post,
 ) (pg-at t) pg.Post
 pg-finish-requires t c κs =
-    (step-marked (c .before .before .before .before .before .ai .ensures .under _) (c .before .if3 .left) (step-marked (c .before .before .before .before .before .before .before .before .before .before .before .bump .ensures .under _) (c .before .before .before .before .before .before .before .if2 .left) (c .before .before .before .before .before .before .before .before .before .before .before .before .before .before .before .before .before .pre .1 .0)), c .before .before .before .before .before .ai .ensures .under 0 .ready (c .before .if3 .left))
+    (step-marked (c .before .before .before .before .before .a .ensures .under _) (c .before .if3 .left) (step-marked (c .before .before .before .before .before .before .before .before .before .before .before .bump .ensures .under _) (c .before .before .before .before .before .before .before .if2 .left) (c .before .before .before .before .before .before .before .before .before .before .before .before .before .before .before .before .before .pre .1 .0)), c .before .before .before .before .before .a .ensures .under 0 .ready (c .before .if3 .left))
 
 -- src/lib.rt:683:9
 pg-same-length-3 : (t : ℕ) → pg-lts.Need-same-length-3 (
   bump-reads.Asked,
   bump-reads.Learnt,
-  ai-below t,
-  ai.Post,
+  a-below t,
+  a.Post,
   finish-reads.Asked,
   finish-reads.Learnt,
-  pa-below t,
-  pa.Post,
+  p-below t,
+  p.Post,
 ) (pg-at t) pg.Post
 pg-same-length-3 t c =
-    c .before .before .finish .ensures .len ∙ (c .before .before .before .before .before .before .before .before .ai .ensures .under 0 .len ∙ (c .before .before .before .before .before .before .before .before .before .before .before .before .before .before .bump .ensures .under 0 .len))
+    c .before .before .finish .ensures .len ∙ (c .before .before .before .before .before .before .before .before .a .ensures .under 0 .len ∙ (c .before .before .before .before .before .before .before .before .before .before .before .before .before .before .bump .ensures .under 0 .len))
 
 -- src/lib.rt:683:9
 pg-returns-3 : (t : ℕ) → pg-lts.Need-returns-3 (
   bump-reads.Asked,
   bump-reads.Learnt,
-  ai-below t,
-  ai.Post,
+  a-below t,
+  a.Post,
   finish-reads.Asked,
   finish-reads.Learnt,
-  pa-below t,
-  pa.Post,
+  p-below t,
+  p.Post,
 ) (pg-at t) pg.Post
 unfolding primary-give
 pg-returns-3 t c =
-    if-yes (eq-eqb _ _ (c .before .before .before .before .before .before .before .before .before .before .before .before .before .before .before .before .if1 .taken)) (both (c .before .before .before .before .before .before .before .before .before .before .before .before .before .before .bump .ensures .under _) (c .before .before .before .before .before .before .before .before .before .before .if2 .left) (both (c .before .before .before .before .before .before .before .before .ai .ensures .under _) (c .before .before .before .before .if3 .left) (c .before .before .finish .ensures)))
+    if-yes (eq-eqb _ _ (c .before .before .before .before .before .before .before .before .before .before .before .before .before .before .before .before .if1 .taken)) (both (c .before .before .before .before .before .before .before .before .before .before .before .before .before .before .bump .ensures .under _) (c .before .before .before .before .before .before .before .before .before .before .if2 .left) (both (c .before .before .before .before .before .before .before .before .a .ensures .under _) (c .before .before .before .before .if3 .left) (c .before .before .finish .ensures)))
 
 -- src/lib.rt:686:13
 pg-bump-requires-2 : (t : ℕ) → pg-lts.Need-bump-requires-2 (
   bump-reads.Asked,
   bump-reads.Learnt,
-  ai-below t,
-  ai.Post,
+  a-below t,
+  a.Post,
   finish-reads.Asked,
   finish-reads.Learnt,
-  pa-below t,
-  pa.Post,
+  p-below t,
+  p.Post,
 ) (pg-at t) pg.Post
 pg-bump-requires-2 t c κs =
     c .before .before .before .before .before .before .pre .1 .1
@@ -8328,12 +8328,12 @@ pg-bump-requires-2 t c κs =
 pg-same-length-4 : (t : ℕ) → pg-lts.Need-same-length-4 (
   bump-reads.Asked,
   bump-reads.Learnt,
-  ai-below t,
-  ai.Post,
+  a-below t,
+  a.Post,
   finish-reads.Asked,
   finish-reads.Learnt,
-  pa-below t,
-  pa.Post,
+  p-below t,
+  p.Post,
 ) (pg-at t) pg.Post
 pg-same-length-4 t c =
     c .before .before .before .before .bump2 .ensures .under 0 .len
@@ -8342,145 +8342,145 @@ pg-same-length-4 t c =
 pg-returns-4 : (t : ℕ) → pg-lts.Need-returns-4 (
   bump-reads.Asked,
   bump-reads.Learnt,
-  ai-below t,
-  ai.Post,
+  a-below t,
+  a.Post,
   finish-reads.Asked,
   finish-reads.Learnt,
-  pa-below t,
-  pa.Post,
+  p-below t,
+  p.Post,
 ) (pg-at t) pg.Post
 unfolding primary-give
 pg-returns-4 t c =
     if-no (ne-eqb _ _ (c .before .before .before .before .before .before .before .if1 .left)) (if-yes (eq-eqb _ _ (c .before .before .before .before .before .before .if4 .taken)) (cut (c .before .before .before .before .bump2 .ensures .under _) (c .if5 .taken)))
 
 -- src/lib.rt:690:9
-pg-ai-requires-2 : (t : ℕ) → pg-lts.Need-ai-requires-2 (
+pg-a-requires-2 : (t : ℕ) → pg-lts.Need-a-requires-2 (
   bump-reads.Asked,
   bump-reads.Learnt,
-  ai-below t,
-  ai.Post,
+  a-below t,
+  a.Post,
   finish-reads.Asked,
   finish-reads.Learnt,
-  pa-below t,
-  pa.Post,
+  p-below t,
+  p.Post,
 ) (pg-at t) pg.Post
-pg-ai-requires-2 t c κs =
+pg-a-requires-2 t c κs =
     (omega (arith, c .before .before .before .before .before .before .before .before .before .before .before .before .pre .0, c .before .before .before .before .before .bump2 .ensures .under 0 .left), c .before .before .before .before .before .bump2 .ensures .under 0 .ready (c .before .if5 .left))
 
 -- src/lib.rt:692:13
 pg-same-length-5 : (t : ℕ) → pg-lts.Need-same-length-5 (
   bump-reads.Asked,
   bump-reads.Learnt,
-  ai-below t,
-  ai.Post,
+  a-below t,
+  a.Post,
   finish-reads.Asked,
   finish-reads.Learnt,
-  pa-below t,
-  pa.Post,
+  p-below t,
+  p.Post,
 ) (pg-at t) pg.Post
 pg-same-length-5 t c =
-    c .before .before .before .before .ai2 .ensures .under 0 .len ∙ (c .before .before .before .before .before .before .before .before .before .before .bump2 .ensures .under 0 .len)
+    c .before .before .before .before .a2 .ensures .under 0 .len ∙ (c .before .before .before .before .before .before .before .before .before .before .bump2 .ensures .under 0 .len)
 
 -- src/lib.rt:692:13
 pg-returns-5 : (t : ℕ) → pg-lts.Need-returns-5 (
   bump-reads.Asked,
   bump-reads.Learnt,
-  ai-below t,
-  ai.Post,
+  a-below t,
+  a.Post,
   finish-reads.Asked,
   finish-reads.Learnt,
-  pa-below t,
-  pa.Post,
+  p-below t,
+  p.Post,
 ) (pg-at t) pg.Post
 unfolding primary-give
 pg-returns-5 t c =
-    if-no (ne-eqb _ _ (c .before .before .before .before .before .before .before .before .before .before .before .before .before .if1 .left)) (if-yes (eq-eqb _ _ (c .before .before .before .before .before .before .before .before .before .before .before .before .if4 .taken)) (both (c .before .before .before .before .before .before .before .before .before .before .bump2 .ensures .under _) (c .before .before .before .before .before .before .if5 .left) (cut (c .before .before .before .before .ai2 .ensures .under _) (c .if6 .taken))))
+    if-no (ne-eqb _ _ (c .before .before .before .before .before .before .before .before .before .before .before .before .before .if1 .left)) (if-yes (eq-eqb _ _ (c .before .before .before .before .before .before .before .before .before .before .before .before .if4 .taken)) (both (c .before .before .before .before .before .before .before .before .before .before .bump2 .ensures .under _) (c .before .before .before .before .before .before .if5 .left) (cut (c .before .before .before .before .a2 .ensures .under _) (c .if6 .taken))))
 
 -- src/lib.rt:694:9
 pg-finish-requires-2 : (t : ℕ) → pg-lts.Need-finish-requires-2 (
   bump-reads.Asked,
   bump-reads.Learnt,
-  ai-below t,
-  ai.Post,
+  a-below t,
+  a.Post,
   finish-reads.Asked,
   finish-reads.Learnt,
-  pa-below t,
-  pa.Post,
+  p-below t,
+  p.Post,
 ) (pg-at t) pg.Post
 pg-finish-requires-2 t c κs =
-    (step-marked (c .before .before .before .before .before .ai2 .ensures .under _) (c .before .if6 .left) (step-marked (c .before .before .before .before .before .before .before .before .before .before .before .bump2 .ensures .under _) (c .before .before .before .before .before .before .before .if5 .left) (c .before .before .before .before .before .before .before .before .before .before .before .before .before .before .before .before .before .before .pre .1 .0)), c .before .before .before .before .before .ai2 .ensures .under 0 .ready (c .before .if6 .left))
+    (step-marked (c .before .before .before .before .before .a2 .ensures .under _) (c .before .if6 .left) (step-marked (c .before .before .before .before .before .before .before .before .before .before .before .bump2 .ensures .under _) (c .before .before .before .before .before .before .before .if5 .left) (c .before .before .before .before .before .before .before .before .before .before .before .before .before .before .before .before .before .before .pre .1 .0)), c .before .before .before .before .before .a2 .ensures .under 0 .ready (c .before .if6 .left))
 
 -- src/lib.rt:694:9
 pg-same-length-6 : (t : ℕ) → pg-lts.Need-same-length-6 (
   bump-reads.Asked,
   bump-reads.Learnt,
-  ai-below t,
-  ai.Post,
+  a-below t,
+  a.Post,
   finish-reads.Asked,
   finish-reads.Learnt,
-  pa-below t,
-  pa.Post,
+  p-below t,
+  p.Post,
 ) (pg-at t) pg.Post
 pg-same-length-6 t c =
-    c .before .before .finish2 .ensures .len ∙ (c .before .before .before .before .before .before .before .before .ai2 .ensures .under 0 .len ∙ (c .before .before .before .before .before .before .before .before .before .before .before .before .before .before .bump2 .ensures .under 0 .len))
+    c .before .before .finish2 .ensures .len ∙ (c .before .before .before .before .before .before .before .before .a2 .ensures .under 0 .len ∙ (c .before .before .before .before .before .before .before .before .before .before .before .before .before .before .bump2 .ensures .under 0 .len))
 
 -- src/lib.rt:694:9
 pg-returns-6 : (t : ℕ) → pg-lts.Need-returns-6 (
   bump-reads.Asked,
   bump-reads.Learnt,
-  ai-below t,
-  ai.Post,
+  a-below t,
+  a.Post,
   finish-reads.Asked,
   finish-reads.Learnt,
-  pa-below t,
-  pa.Post,
+  p-below t,
+  p.Post,
 ) (pg-at t) pg.Post
 unfolding primary-give
 pg-returns-6 t c =
-    if-no (ne-eqb _ _ (c .before .before .before .before .before .before .before .before .before .before .before .before .before .before .before .before .before .if1 .left)) (if-yes (eq-eqb _ _ (c .before .before .before .before .before .before .before .before .before .before .before .before .before .before .before .before .if4 .taken)) (both (c .before .before .before .before .before .before .before .before .before .before .before .before .before .before .bump2 .ensures .under _) (c .before .before .before .before .before .before .before .before .before .before .if5 .left) (both (c .before .before .before .before .before .before .before .before .ai2 .ensures .under _) (c .before .before .before .before .if6 .left) (c .before .before .finish2 .ensures))))
+    if-no (ne-eqb _ _ (c .before .before .before .before .before .before .before .before .before .before .before .before .before .before .before .before .before .if1 .left)) (if-yes (eq-eqb _ _ (c .before .before .before .before .before .before .before .before .before .before .before .before .before .before .before .before .if4 .taken)) (both (c .before .before .before .before .before .before .before .before .before .before .before .before .before .before .bump2 .ensures .under _) (c .before .before .before .before .before .before .before .before .before .before .if5 .left) (both (c .before .before .before .before .before .before .before .before .a2 .ensures .under _) (c .before .before .before .before .if6 .left) (c .before .before .finish2 .ensures))))
 
 -- src/lib.rt:696:5
-pg-pa-requires : (t : ℕ) → pg-lts.Need-pa-requires (
+pg-p-requires : (t : ℕ) → pg-lts.Need-p-requires (
   bump-reads.Asked,
   bump-reads.Learnt,
-  ai-below t,
-  ai.Post,
+  a-below t,
+  a.Post,
   finish-reads.Asked,
   finish-reads.Learnt,
-  pa-below t,
-  pa.Post,
+  p-below t,
+  p.Post,
 ) (pg-at t) pg.Post
-pg-pa-requires t c κs =
+pg-p-requires t c κs =
     (omega (arith, c .before .before .before .before .before .before .pre .0), (c .before .before .before .before .before .before .pre .1 .0, c .before .before .before .before .before .before .pre .1 .1))
 
 -- src/lib.rt:659:1
 pg-same-length-7 : (t : ℕ) → pg-lts.Need-same-length-7 (
   bump-reads.Asked,
   bump-reads.Learnt,
-  ai-below t,
-  ai.Post,
+  a-below t,
+  a.Post,
   finish-reads.Asked,
   finish-reads.Learnt,
-  pa-below t,
-  pa.Post,
+  p-below t,
+  p.Post,
 ) (pg-at t) pg.Post
 pg-same-length-7 t c =
-    c .before .before .pa .ensures .len
+    c .before .before .p .ensures .len
 
 -- src/lib.rt:659:1
 pg-returns-7 : (t : ℕ) → pg-lts.Need-returns-7 (
   bump-reads.Asked,
   bump-reads.Learnt,
-  ai-below t,
-  ai.Post,
+  a-below t,
+  a.Post,
   finish-reads.Asked,
   finish-reads.Learnt,
-  pa-below t,
-  pa.Post,
+  p-below t,
+  p.Post,
 ) (pg-at t) pg.Post
 unfolding primary-give
 pg-returns-7 t c =
-    if-no (ne-eqb _ _ (c .before .before .before .before .before .if1 .left)) (if-no (ne-eqb _ _ (c .before .before .before .before .if4 .left)) (c .before .before .pa .ensures))
+    if-no (ne-eqb _ _ (c .before .before .before .before .before .if1 .left)) (if-no (ne-eqb _ _ (c .before .before .before .before .if4 .left)) (c .before .before .p .ensures))
 
 -- src/lib.rt:631:13
 pj-bump-requires : (t : ℕ) → pj-lts.Need-bump-requires (
@@ -8488,8 +8488,8 @@ pj-bump-requires : (t : ℕ) → pj-lts.Need-bump-requires (
   bump-reads.Learnt,
   labels-reads.Asked,
   labels-reads.Learnt,
-  ai-below t,
-  ai.Post,
+  a-below t,
+  a.Post,
   finish-reads.Asked,
   finish-reads.Learnt,
   pg-below t,
@@ -8504,8 +8504,8 @@ pj-same-length : (t : ℕ) → pj-lts.Need-same-length (
   bump-reads.Learnt,
   labels-reads.Asked,
   labels-reads.Learnt,
-  ai-below t,
-  ai.Post,
+  a-below t,
+  a.Post,
   finish-reads.Asked,
   finish-reads.Learnt,
   pg-below t,
@@ -8520,8 +8520,8 @@ pj-returns : (t : ℕ) → pj-lts.Need-returns (
   bump-reads.Learnt,
   labels-reads.Asked,
   labels-reads.Learnt,
-  ai-below t,
-  ai.Post,
+  a-below t,
+  a.Post,
   finish-reads.Asked,
   finish-reads.Learnt,
   pg-below t,
@@ -8537,8 +8537,8 @@ pj-labels-requires : (t : ℕ) → pj-lts.Need-labels-requires (
   bump-reads.Learnt,
   labels-reads.Asked,
   labels-reads.Learnt,
-  ai-below t,
-  ai.Post,
+  a-below t,
+  a.Post,
   finish-reads.Asked,
   finish-reads.Learnt,
   pg-below t,
@@ -8553,8 +8553,8 @@ pj-same-length-2 : (t : ℕ) → pj-lts.Need-same-length-2 (
   bump-reads.Learnt,
   labels-reads.Asked,
   labels-reads.Learnt,
-  ai-below t,
-  ai.Post,
+  a-below t,
+  a.Post,
   finish-reads.Asked,
   finish-reads.Learnt,
   pg-below t,
@@ -8569,8 +8569,8 @@ pj-returns-2 : (t : ℕ) → pj-lts.Need-returns-2 (
   bump-reads.Learnt,
   labels-reads.Asked,
   labels-reads.Learnt,
-  ai-below t,
-  ai.Post,
+  a-below t,
+  a.Post,
   finish-reads.Asked,
   finish-reads.Learnt,
   pg-below t,
@@ -8581,19 +8581,19 @@ pj-returns-2 t c =
     if-yes (eq-eqb _ _ (c .before .before .before .before .before .before .before .before .before .before .before .before .if1 .taken)) (both (c .before .before .before .before .before .before .before .before .before .before .bump .ensures .under _) (c .before .before .before .before .before .before .if2 .left) (cut (c .before .before .before .before .labels .ensures .under _) (c .if3 .taken)))
 
 -- src/lib.rt:639:9
-pj-ai-requires : (t : ℕ) → pj-lts.Need-ai-requires (
+pj-a-requires : (t : ℕ) → pj-lts.Need-a-requires (
   bump-reads.Asked,
   bump-reads.Learnt,
   labels-reads.Asked,
   labels-reads.Learnt,
-  ai-below t,
-  ai.Post,
+  a-below t,
+  a.Post,
   finish-reads.Asked,
   finish-reads.Learnt,
   pg-below t,
   pg.Post,
 ) (pj-at t) pj.Post
-pj-ai-requires t c κs =
+pj-a-requires t c κs =
     (omega (arith, c .before .before .before .before .before .before .before .before .before .before .before .before .before .before .before .before .before .pre .0, c .before .before .before .before .before .before .before .before .before .before .before .bump .ensures .under 0 .left, c .before .before .before .before .before .labels .ensures .under 0 .left), c .before .before .before .before .before .labels .ensures .under 0 .ready (c .before .if3 .left))
 
 -- src/lib.rt:641:13
@@ -8602,15 +8602,15 @@ pj-same-length-3 : (t : ℕ) → pj-lts.Need-same-length-3 (
   bump-reads.Learnt,
   labels-reads.Asked,
   labels-reads.Learnt,
-  ai-below t,
-  ai.Post,
+  a-below t,
+  a.Post,
   finish-reads.Asked,
   finish-reads.Learnt,
   pg-below t,
   pg.Post,
 ) (pj-at t) pj.Post
 pj-same-length-3 t c =
-    c .before .before .before .before .ai .ensures .under 0 .len ∙ (c .before .before .before .before .before .before .before .before .before .before .labels .ensures .under 0 .len ∙ (c .before .before .before .before .before .before .before .before .before .before .before .before .before .before .before .before .bump .ensures .under 0 .len))
+    c .before .before .before .before .a .ensures .under 0 .len ∙ (c .before .before .before .before .before .before .before .before .before .before .labels .ensures .under 0 .len ∙ (c .before .before .before .before .before .before .before .before .before .before .before .before .before .before .before .before .bump .ensures .under 0 .len))
 
 -- src/lib.rt:641:13
 pj-returns-3 : (t : ℕ) → pj-lts.Need-returns-3 (
@@ -8618,8 +8618,8 @@ pj-returns-3 : (t : ℕ) → pj-lts.Need-returns-3 (
   bump-reads.Learnt,
   labels-reads.Asked,
   labels-reads.Learnt,
-  ai-below t,
-  ai.Post,
+  a-below t,
+  a.Post,
   finish-reads.Asked,
   finish-reads.Learnt,
   pg-below t,
@@ -8627,7 +8627,7 @@ pj-returns-3 : (t : ℕ) → pj-lts.Need-returns-3 (
 ) (pj-at t) pj.Post
 unfolding primary-jump
 pj-returns-3 t c =
-    if-yes (eq-eqb _ _ (c .before .before .before .before .before .before .before .before .before .before .before .before .before .before .before .before .before .before .if1 .taken)) (both (c .before .before .before .before .before .before .before .before .before .before .before .before .before .before .before .before .bump .ensures .under _) (c .before .before .before .before .before .before .before .before .before .before .before .before .if2 .left) (both (c .before .before .before .before .before .before .before .before .before .before .labels .ensures .under _) (c .before .before .before .before .before .before .if3 .left) (cut (c .before .before .before .before .ai .ensures .under _) (c .if4 .taken))))
+    if-yes (eq-eqb _ _ (c .before .before .before .before .before .before .before .before .before .before .before .before .before .before .before .before .before .before .if1 .taken)) (both (c .before .before .before .before .before .before .before .before .before .before .before .before .before .before .before .before .bump .ensures .under _) (c .before .before .before .before .before .before .before .before .before .before .before .before .if2 .left) (both (c .before .before .before .before .before .before .before .before .before .before .labels .ensures .under _) (c .before .before .before .before .before .before .if3 .left) (cut (c .before .before .before .before .a .ensures .under _) (c .if4 .taken))))
 
 -- src/lib.rt:643:9
 pj-finish-requires : (t : ℕ) → pj-lts.Need-finish-requires (
@@ -8635,15 +8635,15 @@ pj-finish-requires : (t : ℕ) → pj-lts.Need-finish-requires (
   bump-reads.Learnt,
   labels-reads.Asked,
   labels-reads.Learnt,
-  ai-below t,
-  ai.Post,
+  a-below t,
+  a.Post,
   finish-reads.Asked,
   finish-reads.Learnt,
   pg-below t,
   pg.Post,
 ) (pj-at t) pj.Post
 pj-finish-requires t c κs =
-    (step-marked (c .before .before .before .before .before .ai .ensures .under _) (c .before .if4 .left) (step-marked (c .before .before .before .before .before .before .before .before .before .before .before .labels .ensures .under _) (c .before .before .before .before .before .before .before .if3 .left) (step-marked (c .before .before .before .before .before .before .before .before .before .before .before .before .before .before .before .before .before .bump .ensures .under _) (c .before .before .before .before .before .before .before .before .before .before .before .before .before .if2 .left) (c .before .before .before .before .before .before .before .before .before .before .before .before .before .before .before .before .before .before .before .before .before .before .before .pre .1 .0))), c .before .before .before .before .before .ai .ensures .under 0 .ready (c .before .if4 .left))
+    (step-marked (c .before .before .before .before .before .a .ensures .under _) (c .before .if4 .left) (step-marked (c .before .before .before .before .before .before .before .before .before .before .before .labels .ensures .under _) (c .before .before .before .before .before .before .before .if3 .left) (step-marked (c .before .before .before .before .before .before .before .before .before .before .before .before .before .before .before .before .before .bump .ensures .under _) (c .before .before .before .before .before .before .before .before .before .before .before .before .before .if2 .left) (c .before .before .before .before .before .before .before .before .before .before .before .before .before .before .before .before .before .before .before .before .before .before .before .pre .1 .0))), c .before .before .before .before .before .a .ensures .under 0 .ready (c .before .if4 .left))
 
 -- src/lib.rt:643:9
 pj-same-length-4 : (t : ℕ) → pj-lts.Need-same-length-4 (
@@ -8651,15 +8651,15 @@ pj-same-length-4 : (t : ℕ) → pj-lts.Need-same-length-4 (
   bump-reads.Learnt,
   labels-reads.Asked,
   labels-reads.Learnt,
-  ai-below t,
-  ai.Post,
+  a-below t,
+  a.Post,
   finish-reads.Asked,
   finish-reads.Learnt,
   pg-below t,
   pg.Post,
 ) (pj-at t) pj.Post
 pj-same-length-4 t c =
-    c .before .before .finish .ensures .len ∙ (c .before .before .before .before .before .before .before .before .ai .ensures .under 0 .len ∙ (c .before .before .before .before .before .before .before .before .before .before .before .before .before .before .labels .ensures .under 0 .len ∙ (c .before .before .before .before .before .before .before .before .before .before .before .before .before .before .before .before .before .before .before .before .bump .ensures .under 0 .len)))
+    c .before .before .finish .ensures .len ∙ (c .before .before .before .before .before .before .before .before .a .ensures .under 0 .len ∙ (c .before .before .before .before .before .before .before .before .before .before .before .before .before .before .labels .ensures .under 0 .len ∙ (c .before .before .before .before .before .before .before .before .before .before .before .before .before .before .before .before .before .before .before .before .bump .ensures .under 0 .len)))
 
 -- src/lib.rt:643:9
 pj-returns-4 : (t : ℕ) → pj-lts.Need-returns-4 (
@@ -8667,8 +8667,8 @@ pj-returns-4 : (t : ℕ) → pj-lts.Need-returns-4 (
   bump-reads.Learnt,
   labels-reads.Asked,
   labels-reads.Learnt,
-  ai-below t,
-  ai.Post,
+  a-below t,
+  a.Post,
   finish-reads.Asked,
   finish-reads.Learnt,
   pg-below t,
@@ -8676,7 +8676,7 @@ pj-returns-4 : (t : ℕ) → pj-lts.Need-returns-4 (
 ) (pj-at t) pj.Post
 unfolding primary-jump
 pj-returns-4 t c =
-    if-yes (eq-eqb _ _ (c .before .before .before .before .before .before .before .before .before .before .before .before .before .before .before .before .before .before .before .before .before .before .if1 .taken)) (both (c .before .before .before .before .before .before .before .before .before .before .before .before .before .before .before .before .before .before .before .before .bump .ensures .under _) (c .before .before .before .before .before .before .before .before .before .before .before .before .before .before .before .before .if2 .left) (both (c .before .before .before .before .before .before .before .before .before .before .before .before .before .before .labels .ensures .under _) (c .before .before .before .before .before .before .before .before .before .before .if3 .left) (both (c .before .before .before .before .before .before .before .before .ai .ensures .under _) (c .before .before .before .before .if4 .left) (c .before .before .finish .ensures))))
+    if-yes (eq-eqb _ _ (c .before .before .before .before .before .before .before .before .before .before .before .before .before .before .before .before .before .before .before .before .before .before .if1 .taken)) (both (c .before .before .before .before .before .before .before .before .before .before .before .before .before .before .before .before .before .before .before .before .bump .ensures .under _) (c .before .before .before .before .before .before .before .before .before .before .before .before .before .before .before .before .if2 .left) (both (c .before .before .before .before .before .before .before .before .before .before .before .before .before .before .labels .ensures .under _) (c .before .before .before .before .before .before .before .before .before .before .if3 .left) (both (c .before .before .before .before .before .before .before .before .a .ensures .under _) (c .before .before .before .before .if4 .left) (c .before .before .finish .ensures))))
 
 -- src/lib.rt:646:13
 pj-bump-requires-2 : (t : ℕ) → pj-lts.Need-bump-requires-2 (
@@ -8684,8 +8684,8 @@ pj-bump-requires-2 : (t : ℕ) → pj-lts.Need-bump-requires-2 (
   bump-reads.Learnt,
   labels-reads.Asked,
   labels-reads.Learnt,
-  ai-below t,
-  ai.Post,
+  a-below t,
+  a.Post,
   finish-reads.Asked,
   finish-reads.Learnt,
   pg-below t,
@@ -8700,8 +8700,8 @@ pj-same-length-5 : (t : ℕ) → pj-lts.Need-same-length-5 (
   bump-reads.Learnt,
   labels-reads.Asked,
   labels-reads.Learnt,
-  ai-below t,
-  ai.Post,
+  a-below t,
+  a.Post,
   finish-reads.Asked,
   finish-reads.Learnt,
   pg-below t,
@@ -8716,8 +8716,8 @@ pj-returns-5 : (t : ℕ) → pj-lts.Need-returns-5 (
   bump-reads.Learnt,
   labels-reads.Asked,
   labels-reads.Learnt,
-  ai-below t,
-  ai.Post,
+  a-below t,
+  a.Post,
   finish-reads.Asked,
   finish-reads.Learnt,
   pg-below t,
@@ -8733,8 +8733,8 @@ pj-labels-requires-2 : (t : ℕ) → pj-lts.Need-labels-requires-2 (
   bump-reads.Learnt,
   labels-reads.Asked,
   labels-reads.Learnt,
-  ai-below t,
-  ai.Post,
+  a-below t,
+  a.Post,
   finish-reads.Asked,
   finish-reads.Learnt,
   pg-below t,
@@ -8749,8 +8749,8 @@ pj-same-length-6 : (t : ℕ) → pj-lts.Need-same-length-6 (
   bump-reads.Learnt,
   labels-reads.Asked,
   labels-reads.Learnt,
-  ai-below t,
-  ai.Post,
+  a-below t,
+  a.Post,
   finish-reads.Asked,
   finish-reads.Learnt,
   pg-below t,
@@ -8765,8 +8765,8 @@ pj-returns-6 : (t : ℕ) → pj-lts.Need-returns-6 (
   bump-reads.Learnt,
   labels-reads.Asked,
   labels-reads.Learnt,
-  ai-below t,
-  ai.Post,
+  a-below t,
+  a.Post,
   finish-reads.Asked,
   finish-reads.Learnt,
   pg-below t,
@@ -8782,8 +8782,8 @@ pj-finish-requires-2 : (t : ℕ) → pj-lts.Need-finish-requires-2 (
   bump-reads.Learnt,
   labels-reads.Asked,
   labels-reads.Learnt,
-  ai-below t,
-  ai.Post,
+  a-below t,
+  a.Post,
   finish-reads.Asked,
   finish-reads.Learnt,
   pg-below t,
@@ -8798,8 +8798,8 @@ pj-same-length-7 : (t : ℕ) → pj-lts.Need-same-length-7 (
   bump-reads.Learnt,
   labels-reads.Asked,
   labels-reads.Learnt,
-  ai-below t,
-  ai.Post,
+  a-below t,
+  a.Post,
   finish-reads.Asked,
   finish-reads.Learnt,
   pg-below t,
@@ -8814,8 +8814,8 @@ pj-returns-7 : (t : ℕ) → pj-lts.Need-returns-7 (
   bump-reads.Learnt,
   labels-reads.Asked,
   labels-reads.Learnt,
-  ai-below t,
-  ai.Post,
+  a-below t,
+  a.Post,
   finish-reads.Asked,
   finish-reads.Learnt,
   pg-below t,
@@ -8831,8 +8831,8 @@ pj-pg-requires : (t : ℕ) → pj-lts.Need-pg-requires (
   bump-reads.Learnt,
   labels-reads.Asked,
   labels-reads.Learnt,
-  ai-below t,
-  ai.Post,
+  a-below t,
+  a.Post,
   finish-reads.Asked,
   finish-reads.Learnt,
   pg-below t,
@@ -8847,8 +8847,8 @@ pj-same-length-8 : (t : ℕ) → pj-lts.Need-same-length-8 (
   bump-reads.Learnt,
   labels-reads.Asked,
   labels-reads.Learnt,
-  ai-below t,
-  ai.Post,
+  a-below t,
+  a.Post,
   finish-reads.Asked,
   finish-reads.Learnt,
   pg-below t,
@@ -8863,8 +8863,8 @@ pj-returns-8 : (t : ℕ) → pj-lts.Need-returns-8 (
   bump-reads.Learnt,
   labels-reads.Asked,
   labels-reads.Learnt,
-  ai-below t,
-  ai.Post,
+  a-below t,
+  a.Post,
   finish-reads.Asked,
   finish-reads.Learnt,
   pg-below t,
@@ -9458,8 +9458,8 @@ pk-returns-8 t c =
 pl-allows-requires : (t : ℕ) → pl-lts.Need-allows-requires (
   allows-reads.Asked,
   allows-reads.Learnt,
-  ra-below t,
-  ra.Post,
+  r-below t,
+  r.Post,
   bump-reads.Asked,
   bump-reads.Learnt,
   ou-below t,
@@ -9479,11 +9479,11 @@ pl-allows-requires t c κs =
     search needs
 
 -- src/lib.rt:754:9
-pl-ra-requires : (t : ℕ) → pl-lts.Need-ra-requires (
+pl-r-requires : (t : ℕ) → pl-lts.Need-r-requires (
   allows-reads.Asked,
   allows-reads.Learnt,
-  ra-below t,
-  ra.Post,
+  r-below t,
+  r.Post,
   bump-reads.Asked,
   bump-reads.Learnt,
   ou-below t,
@@ -9499,15 +9499,15 @@ pl-ra-requires : (t : ℕ) → pl-lts.Need-ra-requires (
   recover-reads.Asked,
   recover-reads.Learnt,
 ) (pl-at t) pl.Post
-pl-ra-requires t c κs =
+pl-r-requires t c κs =
     (omega (arith, c .before .before .before .before .before .before .pre .0), (c .before .before .before .before .before .before .pre .1 .0, c .before .before .before .before .before .before .pre .1 .1))
 
 -- src/lib.rt:754:9
 pl-same-length : (t : ℕ) → pl-lts.Need-same-length (
   allows-reads.Asked,
   allows-reads.Learnt,
-  ra-below t,
-  ra.Post,
+  r-below t,
+  r.Post,
   bump-reads.Asked,
   bump-reads.Learnt,
   ou-below t,
@@ -9524,14 +9524,14 @@ pl-same-length : (t : ℕ) → pl-lts.Need-same-length (
   recover-reads.Learnt,
 ) (pl-at t) pl.Post
 pl-same-length t c =
-    c .before .before .ra .ensures .len
+    c .before .before .r .ensures .len
 
 -- src/lib.rt:754:9
 pl-returns : (t : ℕ) → pl-lts.Need-returns (
   allows-reads.Asked,
   allows-reads.Learnt,
-  ra-below t,
-  ra.Post,
+  r-below t,
+  r.Post,
   bump-reads.Asked,
   bump-reads.Learnt,
   ou-below t,
@@ -9549,14 +9549,14 @@ pl-returns : (t : ℕ) → pl-lts.Need-returns (
 ) (pl-at t) pl.Post
 unfolding primary-last range-to-inclusive anonymous-object
 pl-returns t c =
-    if-yes (sym (c .before .before .before .before .before .allows .ensures) ∙ c .before .before .before .before .if1 .taken) (c .before .before .ra .ensures)
+    if-yes (sym (c .before .before .before .before .before .allows .ensures) ∙ c .before .before .before .before .if1 .taken) (c .before .before .r .ensures)
 
 -- src/lib.rt:756:8
 pl-allows-requires-2 : (t : ℕ) → pl-lts.Need-allows-requires-2 (
   allows-reads.Asked,
   allows-reads.Learnt,
-  ra-below t,
-  ra.Post,
+  r-below t,
+  r.Post,
   bump-reads.Asked,
   bump-reads.Learnt,
   ou-below t,
@@ -9579,8 +9579,8 @@ pl-allows-requires-2 t c κs =
 pl-bump-requires : (t : ℕ) → pl-lts.Need-bump-requires (
   allows-reads.Asked,
   allows-reads.Learnt,
-  ra-below t,
-  ra.Post,
+  r-below t,
+  r.Post,
   bump-reads.Asked,
   bump-reads.Learnt,
   ou-below t,
@@ -9603,8 +9603,8 @@ pl-bump-requires t c κs =
 pl-same-length-2 : (t : ℕ) → pl-lts.Need-same-length-2 (
   allows-reads.Asked,
   allows-reads.Learnt,
-  ra-below t,
-  ra.Post,
+  r-below t,
+  r.Post,
   bump-reads.Asked,
   bump-reads.Learnt,
   ou-below t,
@@ -9627,8 +9627,8 @@ pl-same-length-2 t c =
 pl-returns-2 : (t : ℕ) → pl-lts.Need-returns-2 (
   allows-reads.Asked,
   allows-reads.Learnt,
-  ra-below t,
-  ra.Post,
+  r-below t,
+  r.Post,
   bump-reads.Asked,
   bump-reads.Learnt,
   ou-below t,
@@ -9652,8 +9652,8 @@ pl-returns-2 t c =
 pl-ou-requires : (t : ℕ) → pl-lts.Need-ou-requires (
   allows-reads.Asked,
   allows-reads.Learnt,
-  ra-below t,
-  ra.Post,
+  r-below t,
+  r.Post,
   bump-reads.Asked,
   bump-reads.Learnt,
   ou-below t,
@@ -9676,8 +9676,8 @@ pl-ou-requires t c κs =
 pl-same-length-3 : (t : ℕ) → pl-lts.Need-same-length-3 (
   allows-reads.Asked,
   allows-reads.Learnt,
-  ra-below t,
-  ra.Post,
+  r-below t,
+  r.Post,
   bump-reads.Asked,
   bump-reads.Learnt,
   ou-below t,
@@ -9700,8 +9700,8 @@ pl-same-length-3 t c =
 pl-returns-3 : (t : ℕ) → pl-lts.Need-returns-3 (
   allows-reads.Asked,
   allows-reads.Learnt,
-  ra-below t,
-  ra.Post,
+  r-below t,
+  r.Post,
   bump-reads.Asked,
   bump-reads.Learnt,
   ou-below t,
@@ -9725,8 +9725,8 @@ pl-returns-3 t c =
 pl-finish-requires : (t : ℕ) → pl-lts.Need-finish-requires (
   allows-reads.Asked,
   allows-reads.Learnt,
-  ra-below t,
-  ra.Post,
+  r-below t,
+  r.Post,
   bump-reads.Asked,
   bump-reads.Learnt,
   ou-below t,
@@ -9749,8 +9749,8 @@ pl-finish-requires t c κs =
 pl-same-length-4 : (t : ℕ) → pl-lts.Need-same-length-4 (
   allows-reads.Asked,
   allows-reads.Learnt,
-  ra-below t,
-  ra.Post,
+  r-below t,
+  r.Post,
   bump-reads.Asked,
   bump-reads.Learnt,
   ou-below t,
@@ -9773,8 +9773,8 @@ pl-same-length-4 t c =
 pl-returns-4 : (t : ℕ) → pl-lts.Need-returns-4 (
   allows-reads.Asked,
   allows-reads.Learnt,
-  ra-below t,
-  ra.Post,
+  r-below t,
+  r.Post,
   bump-reads.Asked,
   bump-reads.Learnt,
   ou-below t,
@@ -9798,8 +9798,8 @@ pl-returns-4 t c =
 pl-glues-requires : (t : ℕ) → pl-lts.Need-glues-requires (
   allows-reads.Asked,
   allows-reads.Learnt,
-  ra-below t,
-  ra.Post,
+  r-below t,
+  r.Post,
   bump-reads.Asked,
   bump-reads.Learnt,
   ou-below t,
@@ -9822,8 +9822,8 @@ pl-glues-requires t c κs =
 pl-push-requires : (t : ℕ) → pl-lts.Need-push-requires (
   allows-reads.Asked,
   allows-reads.Learnt,
-  ra-below t,
-  ra.Post,
+  r-below t,
+  r.Post,
   bump-reads.Asked,
   bump-reads.Learnt,
   ou-below t,
@@ -9846,8 +9846,8 @@ pl-push-requires t c κs =
 pl-same-length-5 : (t : ℕ) → pl-lts.Need-same-length-5 (
   allows-reads.Asked,
   allows-reads.Learnt,
-  ra-below t,
-  ra.Post,
+  r-below t,
+  r.Post,
   bump-reads.Asked,
   bump-reads.Learnt,
   ou-below t,
@@ -9870,8 +9870,8 @@ pl-same-length-5 t c =
 pl-returns-5 : (t : ℕ) → pl-lts.Need-returns-5 (
   allows-reads.Asked,
   allows-reads.Learnt,
-  ra-below t,
-  ra.Post,
+  r-below t,
+  r.Post,
   bump-reads.Asked,
   bump-reads.Learnt,
   ou-below t,
@@ -9895,8 +9895,8 @@ pl-returns-5 t c =
 pl-oj-requires : (t : ℕ) → pl-lts.Need-oj-requires (
   allows-reads.Asked,
   allows-reads.Learnt,
-  ra-below t,
-  ra.Post,
+  r-below t,
+  r.Post,
   bump-reads.Asked,
   bump-reads.Learnt,
   ou-below t,
@@ -9919,8 +9919,8 @@ pl-oj-requires t c κs =
 pl-same-length-6 : (t : ℕ) → pl-lts.Need-same-length-6 (
   allows-reads.Asked,
   allows-reads.Learnt,
-  ra-below t,
-  ra.Post,
+  r-below t,
+  r.Post,
   bump-reads.Asked,
   bump-reads.Learnt,
   ou-below t,
@@ -9943,8 +9943,8 @@ pl-same-length-6 t c =
 pl-returns-6 : (t : ℕ) → pl-lts.Need-returns-6 (
   allows-reads.Asked,
   allows-reads.Learnt,
-  ra-below t,
-  ra.Post,
+  r-below t,
+  r.Post,
   bump-reads.Asked,
   bump-reads.Learnt,
   ou-below t,
@@ -9968,8 +9968,8 @@ pl-returns-6 t c =
 pl-finish-requires-2 : (t : ℕ) → pl-lts.Need-finish-requires-2 (
   allows-reads.Asked,
   allows-reads.Learnt,
-  ra-below t,
-  ra.Post,
+  r-below t,
+  r.Post,
   bump-reads.Asked,
   bump-reads.Learnt,
   ou-below t,
@@ -9992,8 +9992,8 @@ pl-finish-requires-2 t c κs =
 pl-same-length-7 : (t : ℕ) → pl-lts.Need-same-length-7 (
   allows-reads.Asked,
   allows-reads.Learnt,
-  ra-below t,
-  ra.Post,
+  r-below t,
+  r.Post,
   bump-reads.Asked,
   bump-reads.Learnt,
   ou-below t,
@@ -10016,8 +10016,8 @@ pl-same-length-7 t c =
 pl-returns-7 : (t : ℕ) → pl-lts.Need-returns-7 (
   allows-reads.Asked,
   allows-reads.Learnt,
-  ra-below t,
-  ra.Post,
+  r-below t,
+  r.Post,
   bump-reads.Asked,
   bump-reads.Learnt,
   ou-below t,
@@ -10041,8 +10041,8 @@ pl-returns-7 t c =
 pl-recover-requires : (t : ℕ) → pl-lts.Need-recover-requires (
   allows-reads.Asked,
   allows-reads.Learnt,
-  ra-below t,
-  ra.Post,
+  r-below t,
+  r.Post,
   bump-reads.Asked,
   bump-reads.Learnt,
   ou-below t,
@@ -10065,8 +10065,8 @@ pl-recover-requires t c κs =
 pl-same-length-8 : (t : ℕ) → pl-lts.Need-same-length-8 (
   allows-reads.Asked,
   allows-reads.Learnt,
-  ra-below t,
-  ra.Post,
+  r-below t,
+  r.Post,
   bump-reads.Asked,
   bump-reads.Learnt,
   ou-below t,
@@ -10089,8 +10089,8 @@ pl-same-length-8 t c =
 pl-returns-8 : (t : ℕ) → pl-lts.Need-returns-8 (
   allows-reads.Asked,
   allows-reads.Learnt,
-  ra-below t,
-  ra.Post,
+  r-below t,
+  r.Post,
   bump-reads.Asked,
   bump-reads.Learnt,
   ou-below t,
@@ -10114,8 +10114,8 @@ pl-returns-8 t c =
 pl-finish-requires-3 : (t : ℕ) → pl-lts.Need-finish-requires-3 (
   allows-reads.Asked,
   allows-reads.Learnt,
-  ra-below t,
-  ra.Post,
+  r-below t,
+  r.Post,
   bump-reads.Asked,
   bump-reads.Learnt,
   ou-below t,
@@ -10138,8 +10138,8 @@ pl-finish-requires-3 t c κs =
 pl-same-length-9 : (t : ℕ) → pl-lts.Need-same-length-9 (
   allows-reads.Asked,
   allows-reads.Learnt,
-  ra-below t,
-  ra.Post,
+  r-below t,
+  r.Post,
   bump-reads.Asked,
   bump-reads.Learnt,
   ou-below t,
@@ -10162,8 +10162,8 @@ pl-same-length-9 t c =
 pl-returns-9 : (t : ℕ) → pl-lts.Need-returns-9 (
   allows-reads.Asked,
   allows-reads.Learnt,
-  ra-below t,
-  ra.Post,
+  r-below t,
+  r.Post,
   bump-reads.Asked,
   bump-reads.Learnt,
   ou-below t,
@@ -10683,8 +10683,8 @@ pq-ps-requires : (t : ℕ) → pq-lts.Need-ps-requires (
   bw.Post,
   bump-reads.Asked,
   bump-reads.Learnt,
-  px-below t,
-  px.Post,
+  q-below t,
+  q.Post,
 ) (pq-at t) pq.Post
 pq-ps-requires t c κs =
     (omega (arith, c .before .before .before .before .before .pre .0), c .before .before .before .before .before .pre .1 .1)
@@ -10699,8 +10699,8 @@ pq-same-length : (t : ℕ) → pq-lts.Need-same-length (
   bw.Post,
   bump-reads.Asked,
   bump-reads.Learnt,
-  px-below t,
-  px.Post,
+  q-below t,
+  q.Post,
 ) (pq-at t) pq.Post
 pq-same-length t c =
     c .before .before .before .before .ps .ensures .under 0 .len
@@ -10715,8 +10715,8 @@ pq-returns : (t : ℕ) → pq-lts.Need-returns (
   bw.Post,
   bump-reads.Asked,
   bump-reads.Learnt,
-  px-below t,
-  px.Post,
+  q-below t,
+  q.Post,
 ) (pq-at t) pq.Post
 unfolding primary-group
 pq-returns t c =
@@ -10732,8 +10732,8 @@ pq-finish-requires : (t : ℕ) → pq-lts.Need-finish-requires (
   bw.Post,
   bump-reads.Asked,
   bump-reads.Learnt,
-  px-below t,
-  px.Post,
+  q-below t,
+  q.Post,
 ) (pq-at t) pq.Post
 pq-finish-requires t c κs =
     (step-marked (c .before .before .before .before .before .ps .ensures .under _) (c .before .if2 .left) (c .before .before .before .before .before .before .before .before .before .before .before .pre .1 .0), c .before .before .before .before .before .ps .ensures .under 0 .ready (c .before .if2 .left))
@@ -10748,8 +10748,8 @@ pq-same-length-2 : (t : ℕ) → pq-lts.Need-same-length-2 (
   bw.Post,
   bump-reads.Asked,
   bump-reads.Learnt,
-  px-below t,
-  px.Post,
+  q-below t,
+  q.Post,
 ) (pq-at t) pq.Post
 pq-same-length-2 t c =
     c .before .before .finish .ensures .len ∙ (c .before .before .before .before .before .before .before .before .ps .ensures .under 0 .len)
@@ -10764,8 +10764,8 @@ pq-returns-2 : (t : ℕ) → pq-lts.Need-returns-2 (
   bw.Post,
   bump-reads.Asked,
   bump-reads.Learnt,
-  px-below t,
-  px.Post,
+  q-below t,
+  q.Post,
 ) (pq-at t) pq.Post
 unfolding primary-group
 pq-returns-2 t c =
@@ -10781,8 +10781,8 @@ pq-bw-requires : (t : ℕ) → pq-lts.Need-bw-requires (
   bw.Post,
   bump-reads.Asked,
   bump-reads.Learnt,
-  px-below t,
-  px.Post,
+  q-below t,
+  q.Post,
 ) (pq-at t) pq.Post
 pq-bw-requires t c κs =
     (omega (arith, c .before .before .before .before .before .before .pre .0), c .before .before .before .before .before .before .pre .1 .1)
@@ -10797,8 +10797,8 @@ pq-same-length-3 : (t : ℕ) → pq-lts.Need-same-length-3 (
   bw.Post,
   bump-reads.Asked,
   bump-reads.Learnt,
-  px-below t,
-  px.Post,
+  q-below t,
+  q.Post,
 ) (pq-at t) pq.Post
 pq-same-length-3 t c =
     c .before .before .before .before .bw .ensures .under 0 .len
@@ -10813,8 +10813,8 @@ pq-returns-3 : (t : ℕ) → pq-lts.Need-returns-3 (
   bw.Post,
   bump-reads.Asked,
   bump-reads.Learnt,
-  px-below t,
-  px.Post,
+  q-below t,
+  q.Post,
 ) (pq-at t) pq.Post
 unfolding primary-group
 pq-returns-3 t c =
@@ -10830,8 +10830,8 @@ pq-finish-requires-2 : (t : ℕ) → pq-lts.Need-finish-requires-2 (
   bw.Post,
   bump-reads.Asked,
   bump-reads.Learnt,
-  px-below t,
-  px.Post,
+  q-below t,
+  q.Post,
 ) (pq-at t) pq.Post
 pq-finish-requires-2 t c κs =
     (step-marked (c .before .before .before .before .before .bw .ensures .under _) (c .before .if4 .left) (c .before .before .before .before .before .before .before .before .before .before .before .before .pre .1 .0), c .before .before .before .before .before .bw .ensures .under 0 .ready (c .before .if4 .left))
@@ -10846,8 +10846,8 @@ pq-same-length-4 : (t : ℕ) → pq-lts.Need-same-length-4 (
   bw.Post,
   bump-reads.Asked,
   bump-reads.Learnt,
-  px-below t,
-  px.Post,
+  q-below t,
+  q.Post,
 ) (pq-at t) pq.Post
 pq-same-length-4 t c =
     c .before .before .finish2 .ensures .len ∙ (c .before .before .before .before .before .before .before .before .bw .ensures .under 0 .len)
@@ -10862,8 +10862,8 @@ pq-returns-4 : (t : ℕ) → pq-lts.Need-returns-4 (
   bw.Post,
   bump-reads.Asked,
   bump-reads.Learnt,
-  px-below t,
-  px.Post,
+  q-below t,
+  q.Post,
 ) (pq-at t) pq.Post
 unfolding primary-group
 pq-returns-4 t c =
@@ -10879,8 +10879,8 @@ pq-bump-requires : (t : ℕ) → pq-lts.Need-bump-requires (
   bw.Post,
   bump-reads.Asked,
   bump-reads.Learnt,
-  px-below t,
-  px.Post,
+  q-below t,
+  q.Post,
 ) (pq-at t) pq.Post
 pq-bump-requires t c κs =
     c .before .before .before .before .before .before .before .pre .1 .1
@@ -10895,8 +10895,8 @@ pq-same-length-5 : (t : ℕ) → pq-lts.Need-same-length-5 (
   bw.Post,
   bump-reads.Asked,
   bump-reads.Learnt,
-  px-below t,
-  px.Post,
+  q-below t,
+  q.Post,
 ) (pq-at t) pq.Post
 pq-same-length-5 t c =
     c .before .before .before .before .bump .ensures .under 0 .len
@@ -10911,8 +10911,8 @@ pq-returns-5 : (t : ℕ) → pq-lts.Need-returns-5 (
   bw.Post,
   bump-reads.Asked,
   bump-reads.Learnt,
-  px-below t,
-  px.Post,
+  q-below t,
+  q.Post,
 ) (pq-at t) pq.Post
 unfolding primary-group
 pq-returns-5 t c =
@@ -10928,8 +10928,8 @@ pq-finish-requires-3 : (t : ℕ) → pq-lts.Need-finish-requires-3 (
   bw.Post,
   bump-reads.Asked,
   bump-reads.Learnt,
-  px-below t,
-  px.Post,
+  q-below t,
+  q.Post,
 ) (pq-at t) pq.Post
 pq-finish-requires-3 t c κs =
     (step-marked (c .before .before .before .before .before .bump .ensures .under _) (c .before .if6 .left) (c .before .before .before .before .before .before .before .before .before .before .before .before .before .pre .1 .0), c .before .before .before .before .before .bump .ensures .under 0 .ready (c .before .if6 .left))
@@ -10944,8 +10944,8 @@ pq-same-length-6 : (t : ℕ) → pq-lts.Need-same-length-6 (
   bw.Post,
   bump-reads.Asked,
   bump-reads.Learnt,
-  px-below t,
-  px.Post,
+  q-below t,
+  q.Post,
 ) (pq-at t) pq.Post
 pq-same-length-6 t c =
     c .before .before .finish3 .ensures .len ∙ (c .before .before .before .before .before .before .before .before .bump .ensures .under 0 .len)
@@ -10960,15 +10960,15 @@ pq-returns-6 : (t : ℕ) → pq-lts.Need-returns-6 (
   bw.Post,
   bump-reads.Asked,
   bump-reads.Learnt,
-  px-below t,
-  px.Post,
+  q-below t,
+  q.Post,
 ) (pq-at t) pq.Post
 unfolding primary-group
 pq-returns-6 t c =
     if-no (ne-eqb _ _ (c .before .before .before .before .before .before .before .before .before .before .before .before .if1 .left)) (if-no (ne-eqb _ _ (c .before .before .before .before .before .before .before .before .before .before .before .if3 .left)) (if-yes (eq-eqb _ _ (c .before .before .before .before .before .before .before .before .before .before .if5 .taken)) (both (c .before .before .before .before .before .before .before .before .bump .ensures .under _) (c .before .before .before .before .if6 .left) (c .before .before .finish3 .ensures))))
 
 -- src/lib.rt:450:5
-pq-px-requires : (t : ℕ) → pq-lts.Need-px-requires (
+pq-q-requires : (t : ℕ) → pq-lts.Need-q-requires (
   ps-below t,
   ps.Post,
   finish-reads.Asked,
@@ -10977,10 +10977,10 @@ pq-px-requires : (t : ℕ) → pq-lts.Need-px-requires (
   bw.Post,
   bump-reads.Asked,
   bump-reads.Learnt,
-  px-below t,
-  px.Post,
+  q-below t,
+  q.Post,
 ) (pq-at t) pq.Post
-pq-px-requires t c κs =
+pq-q-requires t c κs =
     (omega (arith, c .before .before .before .before .before .before .before .pre .0), (c .before .before .before .before .before .before .before .pre .1 .0, c .before .before .before .before .before .before .before .pre .1 .1))
 
 -- src/lib.rt:414:1
@@ -10993,11 +10993,11 @@ pq-same-length-7 : (t : ℕ) → pq-lts.Need-same-length-7 (
   bw.Post,
   bump-reads.Asked,
   bump-reads.Learnt,
-  px-below t,
-  px.Post,
+  q-below t,
+  q.Post,
 ) (pq-at t) pq.Post
 pq-same-length-7 t c =
-    c .before .before .px .ensures .len
+    c .before .before .q .ensures .len
 
 -- src/lib.rt:414:1
 pq-returns-7 : (t : ℕ) → pq-lts.Need-returns-7 (
@@ -11009,12 +11009,12 @@ pq-returns-7 : (t : ℕ) → pq-lts.Need-returns-7 (
   bw.Post,
   bump-reads.Asked,
   bump-reads.Learnt,
-  px-below t,
-  px.Post,
+  q-below t,
+  q.Post,
 ) (pq-at t) pq.Post
 unfolding primary-group
 pq-returns-7 t c =
-    if-no (ne-eqb _ _ (c .before .before .before .before .before .before .if1 .left)) (if-no (ne-eqb _ _ (c .before .before .before .before .before .if3 .left)) (if-no (ne-eqb _ _ (c .before .before .before .before .if5 .left)) (c .before .before .px .ensures)))
+    if-no (ne-eqb _ _ (c .before .before .before .before .before .before .if1 .left)) (if-no (ne-eqb _ _ (c .before .before .before .before .before .if3 .left)) (if-no (ne-eqb _ _ (c .before .before .before .before .if5 .left)) (c .before .before .q .ensures)))
 
 -- src/lib.rt:360:9
 pr-flush-ws-requires : (t : ℕ) → pr-lts.Need-flush-ws-requires (
@@ -11668,8 +11668,8 @@ pw-ei-requires : (t : ℕ) → pw-lts.Need-ei-requires (
   ei.Post,
   finish-reads.Asked,
   finish-reads.Learnt,
-  wh-below t,
-  wh.Post,
+  w-below t,
+  w.Post,
   lp-below t,
   lp.Post,
   pj-below t,
@@ -11684,8 +11684,8 @@ pw-same-length : (t : ℕ) → pw-lts.Need-same-length (
   ei.Post,
   finish-reads.Asked,
   finish-reads.Learnt,
-  wh-below t,
-  wh.Post,
+  w-below t,
+  w.Post,
   lp-below t,
   lp.Post,
   pj-below t,
@@ -11700,8 +11700,8 @@ pw-returns : (t : ℕ) → pw-lts.Need-returns (
   ei.Post,
   finish-reads.Asked,
   finish-reads.Learnt,
-  wh-below t,
-  wh.Post,
+  w-below t,
+  w.Post,
   lp-below t,
   lp.Post,
   pj-below t,
@@ -11717,8 +11717,8 @@ pw-finish-requires : (t : ℕ) → pw-lts.Need-finish-requires (
   ei.Post,
   finish-reads.Asked,
   finish-reads.Learnt,
-  wh-below t,
-  wh.Post,
+  w-below t,
+  w.Post,
   lp-below t,
   lp.Post,
   pj-below t,
@@ -11733,8 +11733,8 @@ pw-same-length-2 : (t : ℕ) → pw-lts.Need-same-length-2 (
   ei.Post,
   finish-reads.Asked,
   finish-reads.Learnt,
-  wh-below t,
-  wh.Post,
+  w-below t,
+  w.Post,
   lp-below t,
   lp.Post,
   pj-below t,
@@ -11749,8 +11749,8 @@ pw-returns-2 : (t : ℕ) → pw-lts.Need-returns-2 (
   ei.Post,
   finish-reads.Asked,
   finish-reads.Learnt,
-  wh-below t,
-  wh.Post,
+  w-below t,
+  w.Post,
   lp-below t,
   lp.Post,
   pj-below t,
@@ -11761,19 +11761,19 @@ pw-returns-2 t c =
     if-yes (eq-eqb _ _ (c .before .before .before .before .before .before .before .before .before .before .if1 .taken)) (both (c .before .before .before .before .before .before .before .before .ei .ensures .under _) (c .before .before .before .before .if2 .left) (c .before .before .finish .ensures))
 
 -- src/lib.rt:599:13
-pw-wh-requires : (t : ℕ) → pw-lts.Need-wh-requires (
+pw-w-requires : (t : ℕ) → pw-lts.Need-w-requires (
   ei-below t,
   ei.Post,
   finish-reads.Asked,
   finish-reads.Learnt,
-  wh-below t,
-  wh.Post,
+  w-below t,
+  w.Post,
   lp-below t,
   lp.Post,
   pj-below t,
   pj.Post,
 ) (pw-at t) pw.Post
-pw-wh-requires t c κs =
+pw-w-requires t c κs =
     (omega (arith, c .before .before .before .before .before .before .pre .0), c .before .before .before .before .before .before .pre .1 .1)
 
 -- src/lib.rt:601:13
@@ -11782,15 +11782,15 @@ pw-same-length-3 : (t : ℕ) → pw-lts.Need-same-length-3 (
   ei.Post,
   finish-reads.Asked,
   finish-reads.Learnt,
-  wh-below t,
-  wh.Post,
+  w-below t,
+  w.Post,
   lp-below t,
   lp.Post,
   pj-below t,
   pj.Post,
 ) (pw-at t) pw.Post
 pw-same-length-3 t c =
-    c .before .before .before .before .wh .ensures .under 0 .len
+    c .before .before .before .before .w .ensures .under 0 .len
 
 -- src/lib.rt:601:13
 pw-returns-3 : (t : ℕ) → pw-lts.Need-returns-3 (
@@ -11798,8 +11798,8 @@ pw-returns-3 : (t : ℕ) → pw-lts.Need-returns-3 (
   ei.Post,
   finish-reads.Asked,
   finish-reads.Learnt,
-  wh-below t,
-  wh.Post,
+  w-below t,
+  w.Post,
   lp-below t,
   lp.Post,
   pj-below t,
@@ -11807,7 +11807,7 @@ pw-returns-3 : (t : ℕ) → pw-lts.Need-returns-3 (
 ) (pw-at t) pw.Post
 unfolding primary-word
 pw-returns-3 t c =
-    if-no (ne-eqb _ _ (c .before .before .before .before .before .before .before .if1 .left)) (if-yes (eq-eqb _ _ (c .before .before .before .before .before .before .if3 .taken)) (cut (c .before .before .before .before .wh .ensures .under _) (c .if4 .taken)))
+    if-no (ne-eqb _ _ (c .before .before .before .before .before .before .before .if1 .left)) (if-yes (eq-eqb _ _ (c .before .before .before .before .before .before .if3 .taken)) (cut (c .before .before .before .before .w .ensures .under _) (c .if4 .taken)))
 
 -- src/lib.rt:603:9
 pw-finish-requires-2 : (t : ℕ) → pw-lts.Need-finish-requires-2 (
@@ -11815,15 +11815,15 @@ pw-finish-requires-2 : (t : ℕ) → pw-lts.Need-finish-requires-2 (
   ei.Post,
   finish-reads.Asked,
   finish-reads.Learnt,
-  wh-below t,
-  wh.Post,
+  w-below t,
+  w.Post,
   lp-below t,
   lp.Post,
   pj-below t,
   pj.Post,
 ) (pw-at t) pw.Post
 pw-finish-requires-2 t c κs =
-    (step-marked (c .before .before .before .before .before .wh .ensures .under _) (c .before .if4 .left) (c .before .before .before .before .before .before .before .before .before .before .before .before .pre .1 .0), c .before .before .before .before .before .wh .ensures .under 0 .ready (c .before .if4 .left))
+    (step-marked (c .before .before .before .before .before .w .ensures .under _) (c .before .if4 .left) (c .before .before .before .before .before .before .before .before .before .before .before .before .pre .1 .0), c .before .before .before .before .before .w .ensures .under 0 .ready (c .before .if4 .left))
 
 -- src/lib.rt:603:9
 pw-same-length-4 : (t : ℕ) → pw-lts.Need-same-length-4 (
@@ -11831,15 +11831,15 @@ pw-same-length-4 : (t : ℕ) → pw-lts.Need-same-length-4 (
   ei.Post,
   finish-reads.Asked,
   finish-reads.Learnt,
-  wh-below t,
-  wh.Post,
+  w-below t,
+  w.Post,
   lp-below t,
   lp.Post,
   pj-below t,
   pj.Post,
 ) (pw-at t) pw.Post
 pw-same-length-4 t c =
-    c .before .before .finish2 .ensures .len ∙ (c .before .before .before .before .before .before .before .before .wh .ensures .under 0 .len)
+    c .before .before .finish2 .ensures .len ∙ (c .before .before .before .before .before .before .before .before .w .ensures .under 0 .len)
 
 -- src/lib.rt:603:9
 pw-returns-4 : (t : ℕ) → pw-lts.Need-returns-4 (
@@ -11847,8 +11847,8 @@ pw-returns-4 : (t : ℕ) → pw-lts.Need-returns-4 (
   ei.Post,
   finish-reads.Asked,
   finish-reads.Learnt,
-  wh-below t,
-  wh.Post,
+  w-below t,
+  w.Post,
   lp-below t,
   lp.Post,
   pj-below t,
@@ -11856,7 +11856,7 @@ pw-returns-4 : (t : ℕ) → pw-lts.Need-returns-4 (
 ) (pw-at t) pw.Post
 unfolding primary-word
 pw-returns-4 t c =
-    if-no (ne-eqb _ _ (c .before .before .before .before .before .before .before .before .before .before .before .if1 .left)) (if-yes (eq-eqb _ _ (c .before .before .before .before .before .before .before .before .before .before .if3 .taken)) (both (c .before .before .before .before .before .before .before .before .wh .ensures .under _) (c .before .before .before .before .if4 .left) (c .before .before .finish2 .ensures)))
+    if-no (ne-eqb _ _ (c .before .before .before .before .before .before .before .before .before .before .before .if1 .left)) (if-yes (eq-eqb _ _ (c .before .before .before .before .before .before .before .before .before .before .if3 .taken)) (both (c .before .before .before .before .before .before .before .before .w .ensures .under _) (c .before .before .before .before .if4 .left) (c .before .before .finish2 .ensures)))
 
 -- src/lib.rt:606:13
 pw-lp-requires : (t : ℕ) → pw-lts.Need-lp-requires (
@@ -11864,8 +11864,8 @@ pw-lp-requires : (t : ℕ) → pw-lts.Need-lp-requires (
   ei.Post,
   finish-reads.Asked,
   finish-reads.Learnt,
-  wh-below t,
-  wh.Post,
+  w-below t,
+  w.Post,
   lp-below t,
   lp.Post,
   pj-below t,
@@ -11880,8 +11880,8 @@ pw-same-length-5 : (t : ℕ) → pw-lts.Need-same-length-5 (
   ei.Post,
   finish-reads.Asked,
   finish-reads.Learnt,
-  wh-below t,
-  wh.Post,
+  w-below t,
+  w.Post,
   lp-below t,
   lp.Post,
   pj-below t,
@@ -11896,8 +11896,8 @@ pw-returns-5 : (t : ℕ) → pw-lts.Need-returns-5 (
   ei.Post,
   finish-reads.Asked,
   finish-reads.Learnt,
-  wh-below t,
-  wh.Post,
+  w-below t,
+  w.Post,
   lp-below t,
   lp.Post,
   pj-below t,
@@ -11913,8 +11913,8 @@ pw-finish-requires-3 : (t : ℕ) → pw-lts.Need-finish-requires-3 (
   ei.Post,
   finish-reads.Asked,
   finish-reads.Learnt,
-  wh-below t,
-  wh.Post,
+  w-below t,
+  w.Post,
   lp-below t,
   lp.Post,
   pj-below t,
@@ -11929,8 +11929,8 @@ pw-same-length-6 : (t : ℕ) → pw-lts.Need-same-length-6 (
   ei.Post,
   finish-reads.Asked,
   finish-reads.Learnt,
-  wh-below t,
-  wh.Post,
+  w-below t,
+  w.Post,
   lp-below t,
   lp.Post,
   pj-below t,
@@ -11945,8 +11945,8 @@ pw-returns-6 : (t : ℕ) → pw-lts.Need-returns-6 (
   ei.Post,
   finish-reads.Asked,
   finish-reads.Learnt,
-  wh-below t,
-  wh.Post,
+  w-below t,
+  w.Post,
   lp-below t,
   lp.Post,
   pj-below t,
@@ -11962,8 +11962,8 @@ pw-pj-requires : (t : ℕ) → pw-lts.Need-pj-requires (
   ei.Post,
   finish-reads.Asked,
   finish-reads.Learnt,
-  wh-below t,
-  wh.Post,
+  w-below t,
+  w.Post,
   lp-below t,
   lp.Post,
   pj-below t,
@@ -11978,8 +11978,8 @@ pw-same-length-7 : (t : ℕ) → pw-lts.Need-same-length-7 (
   ei.Post,
   finish-reads.Asked,
   finish-reads.Learnt,
-  wh-below t,
-  wh.Post,
+  w-below t,
+  w.Post,
   lp-below t,
   lp.Post,
   pj-below t,
@@ -11994,8 +11994,8 @@ pw-returns-7 : (t : ℕ) → pw-lts.Need-returns-7 (
   ei.Post,
   finish-reads.Asked,
   finish-reads.Learnt,
-  wh-below t,
-  wh.Post,
+  w-below t,
+  w.Post,
   lp-below t,
   lp.Post,
   pj-below t,
@@ -12006,7 +12006,7 @@ pw-returns-7 t c =
     if-no (ne-eqb _ _ (c .before .before .before .before .before .before .if1 .left)) (if-no (ne-eqb _ _ (c .before .before .before .before .before .if3 .left)) (if-no (ne-eqb _ _ (c .before .before .before .before .if5 .left)) (c .before .before .pj .ensures)))
 
 -- src/lib.rt:496:13
-px-push-requires : (t : ℕ) → px-lts.Need-push-requires (
+q-push-requires : (t : ℕ) → q-lts.Need-push-requires (
   push-reads.Asked,
   push-reads.Learnt,
   ex-below t,
@@ -12017,12 +12017,12 @@ px-push-requires : (t : ℕ) → px-lts.Need-push-requires (
   ca.Post,
   pu-below t,
   pu.Post,
-) (px-at t) px.Post
-px-push-requires t c κs =
+) (q-at t) q.Post
+q-push-requires t c κs =
     c .before .before .before .before .before .pre .1 .1
 
 -- src/lib.rt:498:13
-px-same-length : (t : ℕ) → px-lts.Need-same-length (
+q-same-length : (t : ℕ) → q-lts.Need-same-length (
   push-reads.Asked,
   push-reads.Learnt,
   ex-below t,
@@ -12033,12 +12033,12 @@ px-same-length : (t : ℕ) → px-lts.Need-same-length (
   ca.Post,
   pu-below t,
   pu.Post,
-) (px-at t) px.Post
-px-same-length t c =
+) (q-at t) q.Post
+q-same-length t c =
     c .before .before .before .before .push .ensures .under 0 .len
 
 -- src/lib.rt:498:13
-px-returns : (t : ℕ) → px-lts.Need-returns (
+q-returns : (t : ℕ) → q-lts.Need-returns (
   push-reads.Asked,
   push-reads.Learnt,
   ex-below t,
@@ -12049,13 +12049,13 @@ px-returns : (t : ℕ) → px-lts.Need-returns (
   ca.Post,
   pu-below t,
   pu.Post,
-) (px-at t) px.Post
+) (q-at t) q.Post
 unfolding primary-prefix
-px-returns t c =
+q-returns t c =
     if-yes (eq-eqb _ _ (c .before .before .before .before .before .before .if1 .taken)) (cut (c .before .before .before .before .push .ensures .under _) (c .if2 .taken))
 
 -- src/lib.rt:500:9
-px-ex-requires : (t : ℕ) → px-lts.Need-ex-requires (
+q-ex-requires : (t : ℕ) → q-lts.Need-ex-requires (
   push-reads.Asked,
   push-reads.Learnt,
   ex-below t,
@@ -12066,12 +12066,12 @@ px-ex-requires : (t : ℕ) → px-lts.Need-ex-requires (
   ca.Post,
   pu-below t,
   pu.Post,
-) (px-at t) px.Post
-px-ex-requires t c κs =
+) (q-at t) q.Post
+q-ex-requires t c κs =
     (omega (arith, c .before .before .before .before .before .before .before .before .before .before .before .pre .0, c .before .before .before .before .before .push .ensures .under 0 .left), c .before .before .before .before .before .push .ensures .under 0 .ready (c .before .if2 .left))
 
 -- src/lib.rt:502:13
-px-same-length-2 : (t : ℕ) → px-lts.Need-same-length-2 (
+q-same-length-2 : (t : ℕ) → q-lts.Need-same-length-2 (
   push-reads.Asked,
   push-reads.Learnt,
   ex-below t,
@@ -12082,12 +12082,12 @@ px-same-length-2 : (t : ℕ) → px-lts.Need-same-length-2 (
   ca.Post,
   pu-below t,
   pu.Post,
-) (px-at t) px.Post
-px-same-length-2 t c =
+) (q-at t) q.Post
+q-same-length-2 t c =
     c .before .before .before .before .ex .ensures .under 0 .len ∙ (c .before .before .before .before .before .before .before .before .before .before .push .ensures .under 0 .len)
 
 -- src/lib.rt:502:13
-px-returns-2 : (t : ℕ) → px-lts.Need-returns-2 (
+q-returns-2 : (t : ℕ) → q-lts.Need-returns-2 (
   push-reads.Asked,
   push-reads.Learnt,
   ex-below t,
@@ -12098,13 +12098,13 @@ px-returns-2 : (t : ℕ) → px-lts.Need-returns-2 (
   ca.Post,
   pu-below t,
   pu.Post,
-) (px-at t) px.Post
+) (q-at t) q.Post
 unfolding primary-prefix
-px-returns-2 t c =
+q-returns-2 t c =
     if-yes (eq-eqb _ _ (c .before .before .before .before .before .before .before .before .before .before .before .before .if1 .taken)) (both (c .before .before .before .before .before .before .before .before .before .before .push .ensures .under _) (c .before .before .before .before .before .before .if2 .left) (cut (c .before .before .before .before .ex .ensures .under _) (c .if3 .taken)))
 
 -- src/lib.rt:504:9
-px-finish-requires : (t : ℕ) → px-lts.Need-finish-requires (
+q-finish-requires : (t : ℕ) → q-lts.Need-finish-requires (
   push-reads.Asked,
   push-reads.Learnt,
   ex-below t,
@@ -12115,12 +12115,12 @@ px-finish-requires : (t : ℕ) → px-lts.Need-finish-requires (
   ca.Post,
   pu-below t,
   pu.Post,
-) (px-at t) px.Post
-px-finish-requires t c κs =
+) (q-at t) q.Post
+q-finish-requires t c κs =
     (step-marked (c .before .before .before .before .before .ex .ensures .under _) (c .before .if3 .left) (step-marked (c .before .before .before .before .before .before .before .before .before .before .before .push .ensures .under _) (c .before .before .before .before .before .before .before .if2 .left) (c .before .before .before .before .before .before .before .before .before .before .before .before .before .before .before .before .before .pre .1 .0)), c .before .before .before .before .before .ex .ensures .under 0 .ready (c .before .if3 .left))
 
 -- src/lib.rt:504:9
-px-same-length-3 : (t : ℕ) → px-lts.Need-same-length-3 (
+q-same-length-3 : (t : ℕ) → q-lts.Need-same-length-3 (
   push-reads.Asked,
   push-reads.Learnt,
   ex-below t,
@@ -12131,12 +12131,12 @@ px-same-length-3 : (t : ℕ) → px-lts.Need-same-length-3 (
   ca.Post,
   pu-below t,
   pu.Post,
-) (px-at t) px.Post
-px-same-length-3 t c =
+) (q-at t) q.Post
+q-same-length-3 t c =
     c .before .before .finish .ensures .len ∙ (c .before .before .before .before .before .before .before .before .ex .ensures .under 0 .len ∙ (c .before .before .before .before .before .before .before .before .before .before .before .before .before .before .push .ensures .under 0 .len))
 
 -- src/lib.rt:504:9
-px-returns-3 : (t : ℕ) → px-lts.Need-returns-3 (
+q-returns-3 : (t : ℕ) → q-lts.Need-returns-3 (
   push-reads.Asked,
   push-reads.Learnt,
   ex-below t,
@@ -12147,13 +12147,13 @@ px-returns-3 : (t : ℕ) → px-lts.Need-returns-3 (
   ca.Post,
   pu-below t,
   pu.Post,
-) (px-at t) px.Post
+) (q-at t) q.Post
 unfolding primary-prefix
-px-returns-3 t c =
+q-returns-3 t c =
     if-yes (eq-eqb _ _ (c .before .before .before .before .before .before .before .before .before .before .before .before .before .before .before .before .if1 .taken)) (both (c .before .before .before .before .before .before .before .before .before .before .before .before .before .before .push .ensures .under _) (c .before .before .before .before .before .before .before .before .before .before .if2 .left) (both (c .before .before .before .before .before .before .before .before .ex .ensures .under _) (c .before .before .before .before .if3 .left) (c .before .before .finish .ensures)))
 
 -- src/lib.rt:507:13
-px-ca-requires : (t : ℕ) → px-lts.Need-ca-requires (
+q-ca-requires : (t : ℕ) → q-lts.Need-ca-requires (
   push-reads.Asked,
   push-reads.Learnt,
   ex-below t,
@@ -12164,12 +12164,12 @@ px-ca-requires : (t : ℕ) → px-lts.Need-ca-requires (
   ca.Post,
   pu-below t,
   pu.Post,
-) (px-at t) px.Post
-px-ca-requires t c κs =
+) (q-at t) q.Post
+q-ca-requires t c κs =
     (omega (arith, c .before .before .before .before .before .before .pre .0), c .before .before .before .before .before .before .pre .1 .1)
 
 -- src/lib.rt:509:13
-px-same-length-4 : (t : ℕ) → px-lts.Need-same-length-4 (
+q-same-length-4 : (t : ℕ) → q-lts.Need-same-length-4 (
   push-reads.Asked,
   push-reads.Learnt,
   ex-below t,
@@ -12180,12 +12180,12 @@ px-same-length-4 : (t : ℕ) → px-lts.Need-same-length-4 (
   ca.Post,
   pu-below t,
   pu.Post,
-) (px-at t) px.Post
-px-same-length-4 t c =
+) (q-at t) q.Post
+q-same-length-4 t c =
     c .before .before .before .before .ca .ensures .under 0 .len
 
 -- src/lib.rt:509:13
-px-returns-4 : (t : ℕ) → px-lts.Need-returns-4 (
+q-returns-4 : (t : ℕ) → q-lts.Need-returns-4 (
   push-reads.Asked,
   push-reads.Learnt,
   ex-below t,
@@ -12196,13 +12196,13 @@ px-returns-4 : (t : ℕ) → px-lts.Need-returns-4 (
   ca.Post,
   pu-below t,
   pu.Post,
-) (px-at t) px.Post
+) (q-at t) q.Post
 unfolding primary-prefix
-px-returns-4 t c =
+q-returns-4 t c =
     if-no (ne-eqb _ _ (c .before .before .before .before .before .before .before .if1 .left)) (if-yes (eq-eqb _ _ (c .before .before .before .before .before .before .if4 .taken)) (cut (c .before .before .before .before .ca .ensures .under _) (c .if5 .taken)))
 
 -- src/lib.rt:511:9
-px-ex-requires-2 : (t : ℕ) → px-lts.Need-ex-requires-2 (
+q-ex-requires-2 : (t : ℕ) → q-lts.Need-ex-requires-2 (
   push-reads.Asked,
   push-reads.Learnt,
   ex-below t,
@@ -12213,12 +12213,12 @@ px-ex-requires-2 : (t : ℕ) → px-lts.Need-ex-requires-2 (
   ca.Post,
   pu-below t,
   pu.Post,
-) (px-at t) px.Post
-px-ex-requires-2 t c κs =
+) (q-at t) q.Post
+q-ex-requires-2 t c κs =
     (omega (arith, c .before .before .before .before .before .before .before .before .before .before .before .before .pre .0, c .before .before .before .before .before .ca .ensures .under 0 .left), c .before .before .before .before .before .ca .ensures .under 0 .ready (c .before .if5 .left))
 
 -- src/lib.rt:513:13
-px-same-length-5 : (t : ℕ) → px-lts.Need-same-length-5 (
+q-same-length-5 : (t : ℕ) → q-lts.Need-same-length-5 (
   push-reads.Asked,
   push-reads.Learnt,
   ex-below t,
@@ -12229,12 +12229,12 @@ px-same-length-5 : (t : ℕ) → px-lts.Need-same-length-5 (
   ca.Post,
   pu-below t,
   pu.Post,
-) (px-at t) px.Post
-px-same-length-5 t c =
+) (q-at t) q.Post
+q-same-length-5 t c =
     c .before .before .before .before .ex2 .ensures .under 0 .len ∙ (c .before .before .before .before .before .before .before .before .before .before .ca .ensures .under 0 .len)
 
 -- src/lib.rt:513:13
-px-returns-5 : (t : ℕ) → px-lts.Need-returns-5 (
+q-returns-5 : (t : ℕ) → q-lts.Need-returns-5 (
   push-reads.Asked,
   push-reads.Learnt,
   ex-below t,
@@ -12245,13 +12245,13 @@ px-returns-5 : (t : ℕ) → px-lts.Need-returns-5 (
   ca.Post,
   pu-below t,
   pu.Post,
-) (px-at t) px.Post
+) (q-at t) q.Post
 unfolding primary-prefix
-px-returns-5 t c =
+q-returns-5 t c =
     if-no (ne-eqb _ _ (c .before .before .before .before .before .before .before .before .before .before .before .before .before .if1 .left)) (if-yes (eq-eqb _ _ (c .before .before .before .before .before .before .before .before .before .before .before .before .if4 .taken)) (both (c .before .before .before .before .before .before .before .before .before .before .ca .ensures .under _) (c .before .before .before .before .before .before .if5 .left) (cut (c .before .before .before .before .ex2 .ensures .under _) (c .if6 .taken))))
 
 -- src/lib.rt:515:9
-px-finish-requires-2 : (t : ℕ) → px-lts.Need-finish-requires-2 (
+q-finish-requires-2 : (t : ℕ) → q-lts.Need-finish-requires-2 (
   push-reads.Asked,
   push-reads.Learnt,
   ex-below t,
@@ -12262,12 +12262,12 @@ px-finish-requires-2 : (t : ℕ) → px-lts.Need-finish-requires-2 (
   ca.Post,
   pu-below t,
   pu.Post,
-) (px-at t) px.Post
-px-finish-requires-2 t c κs =
+) (q-at t) q.Post
+q-finish-requires-2 t c κs =
     (step-marked (c .before .before .before .before .before .ex2 .ensures .under _) (c .before .if6 .left) (step-marked (c .before .before .before .before .before .before .before .before .before .before .before .ca .ensures .under _) (c .before .before .before .before .before .before .before .if5 .left) (c .before .before .before .before .before .before .before .before .before .before .before .before .before .before .before .before .before .before .pre .1 .0)), c .before .before .before .before .before .ex2 .ensures .under 0 .ready (c .before .if6 .left))
 
 -- src/lib.rt:515:9
-px-same-length-6 : (t : ℕ) → px-lts.Need-same-length-6 (
+q-same-length-6 : (t : ℕ) → q-lts.Need-same-length-6 (
   push-reads.Asked,
   push-reads.Learnt,
   ex-below t,
@@ -12278,12 +12278,12 @@ px-same-length-6 : (t : ℕ) → px-lts.Need-same-length-6 (
   ca.Post,
   pu-below t,
   pu.Post,
-) (px-at t) px.Post
-px-same-length-6 t c =
+) (q-at t) q.Post
+q-same-length-6 t c =
     c .before .before .finish2 .ensures .len ∙ (c .before .before .before .before .before .before .before .before .ex2 .ensures .under 0 .len ∙ (c .before .before .before .before .before .before .before .before .before .before .before .before .before .before .ca .ensures .under 0 .len))
 
 -- src/lib.rt:515:9
-px-returns-6 : (t : ℕ) → px-lts.Need-returns-6 (
+q-returns-6 : (t : ℕ) → q-lts.Need-returns-6 (
   push-reads.Asked,
   push-reads.Learnt,
   ex-below t,
@@ -12294,13 +12294,13 @@ px-returns-6 : (t : ℕ) → px-lts.Need-returns-6 (
   ca.Post,
   pu-below t,
   pu.Post,
-) (px-at t) px.Post
+) (q-at t) q.Post
 unfolding primary-prefix
-px-returns-6 t c =
+q-returns-6 t c =
     if-no (ne-eqb _ _ (c .before .before .before .before .before .before .before .before .before .before .before .before .before .before .before .before .before .if1 .left)) (if-yes (eq-eqb _ _ (c .before .before .before .before .before .before .before .before .before .before .before .before .before .before .before .before .if4 .taken)) (both (c .before .before .before .before .before .before .before .before .before .before .before .before .before .before .ca .ensures .under _) (c .before .before .before .before .before .before .before .before .before .before .if5 .left) (both (c .before .before .before .before .before .before .before .before .ex2 .ensures .under _) (c .before .before .before .before .if6 .left) (c .before .before .finish2 .ensures))))
 
 -- src/lib.rt:517:5
-px-pu-requires : (t : ℕ) → px-lts.Need-pu-requires (
+q-pu-requires : (t : ℕ) → q-lts.Need-pu-requires (
   push-reads.Asked,
   push-reads.Learnt,
   ex-below t,
@@ -12311,12 +12311,12 @@ px-pu-requires : (t : ℕ) → px-lts.Need-pu-requires (
   ca.Post,
   pu-below t,
   pu.Post,
-) (px-at t) px.Post
-px-pu-requires t c κs =
+) (q-at t) q.Post
+q-pu-requires t c κs =
     (omega (arith, c .before .before .before .before .before .before .pre .0), (c .before .before .before .before .before .before .pre .1 .0, c .before .before .before .before .before .before .pre .1 .1))
 
 -- src/lib.rt:480:1
-px-same-length-7 : (t : ℕ) → px-lts.Need-same-length-7 (
+q-same-length-7 : (t : ℕ) → q-lts.Need-same-length-7 (
   push-reads.Asked,
   push-reads.Learnt,
   ex-below t,
@@ -12327,12 +12327,12 @@ px-same-length-7 : (t : ℕ) → px-lts.Need-same-length-7 (
   ca.Post,
   pu-below t,
   pu.Post,
-) (px-at t) px.Post
-px-same-length-7 t c =
+) (q-at t) q.Post
+q-same-length-7 t c =
     c .before .before .pu .ensures .len
 
 -- src/lib.rt:480:1
-px-returns-7 : (t : ℕ) → px-lts.Need-returns-7 (
+q-returns-7 : (t : ℕ) → q-lts.Need-returns-7 (
   push-reads.Asked,
   push-reads.Learnt,
   ex-below t,
@@ -12343,13 +12343,13 @@ px-returns-7 : (t : ℕ) → px-lts.Need-returns-7 (
   ca.Post,
   pu-below t,
   pu.Post,
-) (px-at t) px.Post
+) (q-at t) q.Post
 unfolding primary-prefix
-px-returns-7 t c =
+q-returns-7 t c =
     if-no (ne-eqb _ _ (c .before .before .before .before .before .if1 .left)) (if-no (ne-eqb _ _ (c .before .before .before .before .if4 .left)) (c .before .before .pu .ensures))
 
 -- src/lib.rt:789:9
-ra-bump-requires : (t : ℕ) → ra-lts.Need-bump-requires (
+r-bump-requires : (t : ℕ) → r-lts.Need-bump-requires (
   bump-reads.Asked,
   bump-reads.Learnt,
   peek-reads.Asked,
@@ -12362,12 +12362,12 @@ ra-bump-requires : (t : ℕ) → ra-lts.Need-bump-requires (
   ou.Post,
   finish-reads.Asked,
   finish-reads.Learnt,
-) (ra-at t) ra.Post
-ra-bump-requires t c κs =
+) (r-at t) r.Post
+r-bump-requires t c κs =
     c .before .before .before .before .pre .1 .1
 
 -- src/lib.rt:791:9
-ra-same-length : (t : ℕ) → ra-lts.Need-same-length (
+r-same-length : (t : ℕ) → r-lts.Need-same-length (
   bump-reads.Asked,
   bump-reads.Learnt,
   peek-reads.Asked,
@@ -12380,12 +12380,12 @@ ra-same-length : (t : ℕ) → ra-lts.Need-same-length (
   ou.Post,
   finish-reads.Asked,
   finish-reads.Learnt,
-) (ra-at t) ra.Post
-ra-same-length t c =
+) (r-at t) r.Post
+r-same-length t c =
     c .before .before .before .before .bump .ensures .under 0 .len
 
 -- src/lib.rt:791:9
-ra-returns : (t : ℕ) → ra-lts.Need-returns (
+r-returns : (t : ℕ) → r-lts.Need-returns (
   bump-reads.Asked,
   bump-reads.Learnt,
   peek-reads.Asked,
@@ -12398,13 +12398,13 @@ ra-returns : (t : ℕ) → ra-lts.Need-returns (
   ou.Post,
   finish-reads.Asked,
   finish-reads.Learnt,
-) (ra-at t) ra.Post
+) (r-at t) r.Post
 unfolding range-to
-ra-returns t c =
+r-returns t c =
     cut (c .before .before .before .before .bump .ensures .under _) (c .if1 .taken)
 
 -- src/lib.rt:793:51
-ra-peek-requires : (t : ℕ) → ra-lts.Need-peek-requires (
+r-peek-requires : (t : ℕ) → r-lts.Need-peek-requires (
   bump-reads.Asked,
   bump-reads.Learnt,
   peek-reads.Asked,
@@ -12417,12 +12417,12 @@ ra-peek-requires : (t : ℕ) → ra-lts.Need-peek-requires (
   ou.Post,
   finish-reads.Asked,
   finish-reads.Learnt,
-) (ra-at t) ra.Post
-ra-peek-requires t c κs =
+) (r-at t) r.Post
+r-peek-requires t c κs =
     (c .before .before .before .before .bump .ensures .under 0 .ready (c .if1 .left)) .looks
 
 -- src/lib.rt:793:66
-ra-glued-requires : (t : ℕ) → ra-lts.Need-glued-requires (
+r-glued-requires : (t : ℕ) → r-lts.Need-glued-requires (
   bump-reads.Asked,
   bump-reads.Learnt,
   peek-reads.Asked,
@@ -12435,12 +12435,12 @@ ra-glued-requires : (t : ℕ) → ra-lts.Need-glued-requires (
   ou.Post,
   finish-reads.Asked,
   finish-reads.Learnt,
-) (ra-at t) ra.Post
-ra-glued-requires t c κs =
+) (r-at t) r.Post
+r-glued-requires t c κs =
     (c .before .before .before .before .before .bump .ensures .under 0 .ready (c .before .if1 .left)) .looks
 
 -- src/lib.rt:793:8
-ra-is-expr-with-requires : (t : ℕ) → ra-lts.Need-is-expr-with-requires (
+r-is-expr-with-requires : (t : ℕ) → r-lts.Need-is-expr-with-requires (
   bump-reads.Asked,
   bump-reads.Learnt,
   peek-reads.Asked,
@@ -12453,12 +12453,12 @@ ra-is-expr-with-requires : (t : ℕ) → ra-lts.Need-is-expr-with-requires (
   ou.Post,
   finish-reads.Asked,
   finish-reads.Learnt,
-) (ra-at t) ra.Post
-ra-is-expr-with-requires t c κs =
+) (r-at t) r.Post
+r-is-expr-with-requires t c κs =
     search needs
 
 -- src/lib.rt:794:9
-ra-ou-requires : (t : ℕ) → ra-lts.Need-ou-requires (
+r-ou-requires : (t : ℕ) → r-lts.Need-ou-requires (
   bump-reads.Asked,
   bump-reads.Learnt,
   peek-reads.Asked,
@@ -12471,12 +12471,12 @@ ra-ou-requires : (t : ℕ) → ra-lts.Need-ou-requires (
   ou.Post,
   finish-reads.Asked,
   finish-reads.Learnt,
-) (ra-at t) ra.Post
-ra-ou-requires t c κs =
+) (r-at t) r.Post
+r-ou-requires t c κs =
     (omega (arith, c .before .before .before .before .before .before .before .before .before .before .before .before .before .before .pre .0, c .before .before .before .before .before .before .before .before .before .bump .ensures .under 0 .left), c .before .before .before .before .before .before .before .before .before .bump .ensures .under 0 .ready (c .before .before .before .before .before .if1 .left))
 
 -- src/lib.rt:796:13
-ra-same-length-2 : (t : ℕ) → ra-lts.Need-same-length-2 (
+r-same-length-2 : (t : ℕ) → r-lts.Need-same-length-2 (
   bump-reads.Asked,
   bump-reads.Learnt,
   peek-reads.Asked,
@@ -12489,12 +12489,12 @@ ra-same-length-2 : (t : ℕ) → ra-lts.Need-same-length-2 (
   ou.Post,
   finish-reads.Asked,
   finish-reads.Learnt,
-) (ra-at t) ra.Post
-ra-same-length-2 t c =
+) (r-at t) r.Post
+r-same-length-2 t c =
     c .before .before .before .before .ou .ensures .under 0 .len ∙ (c .before .before .before .before .before .before .before .before .before .before .before .before .before .before .bump .ensures .under 0 .len)
 
 -- src/lib.rt:796:13
-ra-returns-2 : (t : ℕ) → ra-lts.Need-returns-2 (
+r-returns-2 : (t : ℕ) → r-lts.Need-returns-2 (
   bump-reads.Asked,
   bump-reads.Learnt,
   peek-reads.Asked,
@@ -12507,13 +12507,13 @@ ra-returns-2 : (t : ℕ) → ra-lts.Need-returns-2 (
   ou.Post,
   finish-reads.Asked,
   finish-reads.Learnt,
-) (ra-at t) ra.Post
+) (r-at t) r.Post
 unfolding range-to
-ra-returns-2 t c =
+r-returns-2 t c =
     both (c .before .before .before .before .before .before .before .before .before .before .before .before .before .before .bump .ensures .under _) (c .before .before .before .before .before .before .before .before .before .before .if1 .left) (ask-glued (c .before .before .before .before .before .before .before .before .before .peek .ensures) (c .before .before .before .before .before .before .before .before .glued .ensures) (if-yes (sym (c .before .before .before .before .before .before .before .is-expr-with .ensures) ∙ c .before .before .before .before .before .before .if2 .taken) (cut (c .before .before .before .before .ou .ensures .under _) (c .if3 .taken))))
 
 -- src/lib.rt:798:9
-ra-finish-requires : (t : ℕ) → ra-lts.Need-finish-requires (
+r-finish-requires : (t : ℕ) → r-lts.Need-finish-requires (
   bump-reads.Asked,
   bump-reads.Learnt,
   peek-reads.Asked,
@@ -12526,12 +12526,12 @@ ra-finish-requires : (t : ℕ) → ra-lts.Need-finish-requires (
   ou.Post,
   finish-reads.Asked,
   finish-reads.Learnt,
-) (ra-at t) ra.Post
-ra-finish-requires t c κs =
+) (r-at t) r.Post
+r-finish-requires t c κs =
     (step-marked (c .before .before .before .before .before .ou .ensures .under _) (c .before .if3 .left) (step-marked (c .before .before .before .before .before .before .before .before .before .before .before .before .before .before .before .bump .ensures .under _) (c .before .before .before .before .before .before .before .before .before .before .before .if1 .left) (c .before .before .before .before .before .before .before .before .before .before .before .before .before .before .before .before .before .before .before .before .pre .1 .0)), c .before .before .before .before .before .ou .ensures .under 0 .ready (c .before .if3 .left))
 
 -- src/lib.rt:798:9
-ra-same-length-3 : (t : ℕ) → ra-lts.Need-same-length-3 (
+r-same-length-3 : (t : ℕ) → r-lts.Need-same-length-3 (
   bump-reads.Asked,
   bump-reads.Learnt,
   peek-reads.Asked,
@@ -12544,12 +12544,12 @@ ra-same-length-3 : (t : ℕ) → ra-lts.Need-same-length-3 (
   ou.Post,
   finish-reads.Asked,
   finish-reads.Learnt,
-) (ra-at t) ra.Post
-ra-same-length-3 t c =
+) (r-at t) r.Post
+r-same-length-3 t c =
     c .before .before .finish .ensures .len ∙ (c .before .before .before .before .before .before .before .before .ou .ensures .under 0 .len ∙ (c .before .before .before .before .before .before .before .before .before .before .before .before .before .before .before .before .before .before .bump .ensures .under 0 .len))
 
 -- src/lib.rt:798:9
-ra-returns-3 : (t : ℕ) → ra-lts.Need-returns-3 (
+r-returns-3 : (t : ℕ) → r-lts.Need-returns-3 (
   bump-reads.Asked,
   bump-reads.Learnt,
   peek-reads.Asked,
@@ -12562,13 +12562,13 @@ ra-returns-3 : (t : ℕ) → ra-lts.Need-returns-3 (
   ou.Post,
   finish-reads.Asked,
   finish-reads.Learnt,
-) (ra-at t) ra.Post
+) (r-at t) r.Post
 unfolding range-to
-ra-returns-3 t c =
+r-returns-3 t c =
     both (c .before .before .before .before .before .before .before .before .before .before .before .before .before .before .before .before .before .before .bump .ensures .under _) (c .before .before .before .before .before .before .before .before .before .before .before .before .before .before .if1 .left) (ask-glued (c .before .before .before .before .before .before .before .before .before .before .before .before .before .peek .ensures) (c .before .before .before .before .before .before .before .before .before .before .before .before .glued .ensures) (if-yes (sym (c .before .before .before .before .before .before .before .before .before .before .before .is-expr-with .ensures) ∙ c .before .before .before .before .before .before .before .before .before .before .if2 .taken) (both (c .before .before .before .before .before .before .before .before .ou .ensures .under _) (c .before .before .before .before .if3 .left) (c .before .before .finish .ensures))))
 
 -- src/lib.rt:800:5
-ra-finish-requires-2 : (t : ℕ) → ra-lts.Need-finish-requires-2 (
+r-finish-requires-2 : (t : ℕ) → r-lts.Need-finish-requires-2 (
   bump-reads.Asked,
   bump-reads.Learnt,
   peek-reads.Asked,
@@ -12581,12 +12581,12 @@ ra-finish-requires-2 : (t : ℕ) → ra-lts.Need-finish-requires-2 (
   ou.Post,
   finish-reads.Asked,
   finish-reads.Learnt,
-) (ra-at t) ra.Post
-ra-finish-requires-2 t c κs =
+) (r-at t) r.Post
+r-finish-requires-2 t c κs =
     (step-marked (c .before .before .before .before .before .before .before .before .before .bump .ensures .under _) (c .before .before .before .before .before .if1 .left) (c .before .before .before .before .before .before .before .before .before .before .before .before .before .before .pre .1 .0), c .before .before .before .before .before .before .before .before .before .bump .ensures .under 0 .ready (c .before .before .before .before .before .if1 .left))
 
 -- src/lib.rt:785:1
-ra-same-length-4 : (t : ℕ) → ra-lts.Need-same-length-4 (
+r-same-length-4 : (t : ℕ) → r-lts.Need-same-length-4 (
   bump-reads.Asked,
   bump-reads.Learnt,
   peek-reads.Asked,
@@ -12599,12 +12599,12 @@ ra-same-length-4 : (t : ℕ) → ra-lts.Need-same-length-4 (
   ou.Post,
   finish-reads.Asked,
   finish-reads.Learnt,
-) (ra-at t) ra.Post
-ra-same-length-4 t c =
+) (r-at t) r.Post
+r-same-length-4 t c =
     c .before .before .finish2 .ensures .len ∙ (c .before .before .before .before .before .before .before .before .before .before .before .before .bump .ensures .under 0 .len)
 
 -- src/lib.rt:785:1
-ra-returns-4 : (t : ℕ) → ra-lts.Need-returns-4 (
+r-returns-4 : (t : ℕ) → r-lts.Need-returns-4 (
   bump-reads.Asked,
   bump-reads.Learnt,
   peek-reads.Asked,
@@ -12617,9 +12617,9 @@ ra-returns-4 : (t : ℕ) → ra-lts.Need-returns-4 (
   ou.Post,
   finish-reads.Asked,
   finish-reads.Learnt,
-) (ra-at t) ra.Post
+) (r-at t) r.Post
 unfolding range-to
-ra-returns-4 t c =
+r-returns-4 t c =
     both (c .before .before .before .before .before .before .before .before .before .before .before .before .bump .ensures .under _) (c .before .before .before .before .before .before .before .before .if1 .left) (ask-glued (c .before .before .before .before .before .before .before .peek .ensures) (c .before .before .before .before .before .before .glued .ensures) (if-no (sym (c .before .before .before .before .before .is-expr-with .ensures) ∙ c .before .before .before .before .if2 .left) (c .before .before .finish2 .ensures)))
 
 abbrev rd-Inv-loop : rd-lts.InvT-loop
@@ -12646,8 +12646,8 @@ rd-flush-ws-requires : (t : ℕ) → rd-lts.Need-flush-ws-requires (
   is-none-reads.Learnt,
   is-tighter-reads.Asked,
   is-tighter-reads.Learnt,
-  ne-below t,
-  ne.Post,
+  n-below t,
+  n.Post,
   clashes-reads.Asked,
   clashes-reads.Learnt,
   refuse-reads.Asked,
@@ -12672,8 +12672,8 @@ rd-same-length : (t : ℕ) → rd-lts.Need-same-length (
   is-none-reads.Learnt,
   is-tighter-reads.Asked,
   is-tighter-reads.Learnt,
-  ne-below t,
-  ne.Post,
+  n-below t,
+  n.Post,
   clashes-reads.Asked,
   clashes-reads.Learnt,
   refuse-reads.Asked,
@@ -12698,8 +12698,8 @@ rd-returns : (t : ℕ) → rd-lts.Need-returns (
   is-none-reads.Learnt,
   is-tighter-reads.Asked,
   is-tighter-reads.Learnt,
-  ne-below t,
-  ne.Post,
+  n-below t,
+  n.Post,
   clashes-reads.Asked,
   clashes-reads.Learnt,
   refuse-reads.Asked,
@@ -12725,8 +12725,8 @@ rd-ou-requires : (t : ℕ) → rd-lts.Need-ou-requires (
   is-none-reads.Learnt,
   is-tighter-reads.Asked,
   is-tighter-reads.Learnt,
-  ne-below t,
-  ne.Post,
+  n-below t,
+  n.Post,
   clashes-reads.Asked,
   clashes-reads.Learnt,
   refuse-reads.Asked,
@@ -12751,8 +12751,8 @@ rd-same-length-2 : (t : ℕ) → rd-lts.Need-same-length-2 (
   is-none-reads.Learnt,
   is-tighter-reads.Asked,
   is-tighter-reads.Learnt,
-  ne-below t,
-  ne.Post,
+  n-below t,
+  n.Post,
   clashes-reads.Asked,
   clashes-reads.Learnt,
   refuse-reads.Asked,
@@ -12777,8 +12777,8 @@ rd-returns-2 : (t : ℕ) → rd-lts.Need-returns-2 (
   is-none-reads.Learnt,
   is-tighter-reads.Asked,
   is-tighter-reads.Learnt,
-  ne-below t,
-  ne.Post,
+  n-below t,
+  n.Post,
   clashes-reads.Asked,
   clashes-reads.Learnt,
   refuse-reads.Asked,
@@ -12804,8 +12804,8 @@ rd-peek-requires : (t : ℕ) → rd-lts.Need-peek-requires (
   is-none-reads.Learnt,
   is-tighter-reads.Asked,
   is-tighter-reads.Learnt,
-  ne-below t,
-  ne.Post,
+  n-below t,
+  n.Post,
   clashes-reads.Asked,
   clashes-reads.Learnt,
   refuse-reads.Asked,
@@ -12830,8 +12830,8 @@ rd-peek-second-requires : (t : ℕ) → rd-lts.Need-peek-second-requires (
   is-none-reads.Learnt,
   is-tighter-reads.Asked,
   is-tighter-reads.Learnt,
-  ne-below t,
-  ne.Post,
+  n-below t,
+  n.Post,
   clashes-reads.Asked,
   clashes-reads.Learnt,
   refuse-reads.Asked,
@@ -12856,8 +12856,8 @@ rd-from-slice-requires : (t : ℕ) → rd-lts.Need-from-slice-requires (
   is-none-reads.Learnt,
   is-tighter-reads.Asked,
   is-tighter-reads.Learnt,
-  ne-below t,
-  ne.Post,
+  n-below t,
+  n.Post,
   clashes-reads.Asked,
   clashes-reads.Learnt,
   refuse-reads.Asked,
@@ -12882,8 +12882,8 @@ rd-loop-holds : (t : ℕ) → rd-lts.Need-loop-holds (
   is-none-reads.Learnt,
   is-tighter-reads.Asked,
   is-tighter-reads.Learnt,
-  ne-below t,
-  ne.Post,
+  n-below t,
+  n.Post,
   clashes-reads.Asked,
   clashes-reads.Learnt,
   refuse-reads.Asked,
@@ -12909,8 +12909,8 @@ rd-is-none-requires : (t : ℕ) → rd-lts.Need-is-none-requires (
   is-none-reads.Learnt,
   is-tighter-reads.Asked,
   is-tighter-reads.Learnt,
-  ne-below t,
-  ne.Post,
+  n-below t,
+  n.Post,
   clashes-reads.Asked,
   clashes-reads.Learnt,
   refuse-reads.Asked,
@@ -12935,8 +12935,8 @@ rd-same-length-3 : (t : ℕ) → rd-lts.Need-same-length-3 (
   is-none-reads.Learnt,
   is-tighter-reads.Asked,
   is-tighter-reads.Learnt,
-  ne-below t,
-  ne.Post,
+  n-below t,
+  n.Post,
   clashes-reads.Asked,
   clashes-reads.Learnt,
   refuse-reads.Asked,
@@ -12961,8 +12961,8 @@ rd-returns-3 : (t : ℕ) → rd-lts.Need-returns-3 (
   is-none-reads.Learnt,
   is-tighter-reads.Asked,
   is-tighter-reads.Learnt,
-  ne-below t,
-  ne.Post,
+  n-below t,
+  n.Post,
   clashes-reads.Asked,
   clashes-reads.Learnt,
   refuse-reads.Asked,
@@ -12988,8 +12988,8 @@ rd-is-tighter-requires : (t : ℕ) → rd-lts.Need-is-tighter-requires (
   is-none-reads.Learnt,
   is-tighter-reads.Asked,
   is-tighter-reads.Learnt,
-  ne-below t,
-  ne.Post,
+  n-below t,
+  n.Post,
   clashes-reads.Asked,
   clashes-reads.Learnt,
   refuse-reads.Asked,
@@ -12999,7 +12999,7 @@ rd-is-tighter-requires t c κs =
     search needs
 
 -- src/lib.rt:1495:13
-rd-ne-requires : (t : ℕ) → rd-lts.Need-ne-requires (
+rd-n-requires : (t : ℕ) → rd-lts.Need-n-requires (
   flush-ws-reads.Asked,
   flush-ws-reads.Learnt,
   ou-below t,
@@ -13014,14 +13014,14 @@ rd-ne-requires : (t : ℕ) → rd-lts.Need-ne-requires (
   is-none-reads.Learnt,
   is-tighter-reads.Asked,
   is-tighter-reads.Learnt,
-  ne-below t,
-  ne.Post,
+  n-below t,
+  n.Post,
   clashes-reads.Asked,
   clashes-reads.Learnt,
   refuse-reads.Asked,
   refuse-reads.Learnt,
 ) (rd-at t) rd.Post rd-Inv-loop rd-μ-loop
-rd-ne-requires t c κs =
+rd-n-requires t c κs =
     (omega (arith, c .before .before .before .before .before .before .before .before .before .before .before .before .before .before .before .before .before .before .before .before .before .before .before .before .pre .0, c .before .before .before .before .before .before .before .before .before .before .before .before .before .before .before .before .before .before .before .flush-ws .ensures .under 0 .left, c .before .before .before .before .before .before .before .before .before .before .before .before .before .ou .ensures .under 0 .left, c .before .before .before .before .before .loop .inv .loop .at .left), (c .before .before .before .before .before .loop .inv .loop .at .marked (step-marked (c .before .before .before .before .before .before .before .before .before .before .before .before .before .ou .ensures .under _) (c .before .before .before .before .before .before .before .before .before .if2 .left) (marked-now)), c .before .before .before .before .before .before .before .before .before .before .before .before .before .before .before .before .before .before .before .before .before .before .before .before .pre .1 .0, c .before .before .before .before .before .loop .inv .next, c .before .before .before .before .before .loop .inv .loop .ready))
 
 -- src/lib.rt:1497:17
@@ -13040,15 +13040,15 @@ rd-same-length-4 : (t : ℕ) → rd-lts.Need-same-length-4 (
   is-none-reads.Learnt,
   is-tighter-reads.Asked,
   is-tighter-reads.Learnt,
-  ne-below t,
-  ne.Post,
+  n-below t,
+  n.Post,
   clashes-reads.Asked,
   clashes-reads.Learnt,
   refuse-reads.Asked,
   refuse-reads.Learnt,
 ) (rd-at t) rd.Post rd-Inv-loop rd-μ-loop
 rd-same-length-4 t c =
-    c .before .before .before .before .ne .ensures .len ∙ (c .before .before .before .before .before .before .before .before .before .before .loop .inv .loop .at .len ∙ (c .before .before .before .before .before .before .before .before .before .before .before .before .before .before .before .before .before .before .ou .ensures .under 0 .len ∙ (c .before .before .before .before .before .before .before .before .before .before .before .before .before .before .before .before .before .before .before .before .before .before .before .before .flush-ws .ensures .under 0 .len)))
+    c .before .before .before .before .n .ensures .len ∙ (c .before .before .before .before .before .before .before .before .before .before .loop .inv .loop .at .len ∙ (c .before .before .before .before .before .before .before .before .before .before .before .before .before .before .before .before .before .before .ou .ensures .under 0 .len ∙ (c .before .before .before .before .before .before .before .before .before .before .before .before .before .before .before .before .before .before .before .before .before .before .before .before .flush-ws .ensures .under 0 .len)))
 
 -- src/lib.rt:1497:17
 rd-returns-4 : (t : ℕ) → rd-lts.Need-returns-4 (
@@ -13066,8 +13066,8 @@ rd-returns-4 : (t : ℕ) → rd-lts.Need-returns-4 (
   is-none-reads.Learnt,
   is-tighter-reads.Asked,
   is-tighter-reads.Learnt,
-  ne-below t,
-  ne.Post,
+  n-below t,
+  n.Post,
   clashes-reads.Asked,
   clashes-reads.Learnt,
   refuse-reads.Asked,
@@ -13075,7 +13075,7 @@ rd-returns-4 : (t : ℕ) → rd-lts.Need-returns-4 (
 ) (rd-at t) rd.Post rd-Inv-loop rd-μ-loop
 unfolding operand tighter-turn
 rd-returns-4 t c =
-    scoped (c .before .before .before .before .before .before .before .before .before .before .before .before .before .before .before .before .before .before .before .before .before .before .before .before .flush-ws .ensures) (c .before .before .before .before .before .before .before .before .before .before .before .before .before .before .before .before .before .before .before .before .if1 .left) (spot (c .before .before .before .before .before .before .before .before .before .before .before .before .before .before .before .before .before .before .before .before .before .before .before .before .flush-ws .ensures .under 0 .ready (c .before .before .before .before .before .before .before .before .before .before .before .before .before .before .before .before .before .before .before .before .if1 .left) .looks .next) (both (c .before .before .before .before .before .before .before .before .before .before .before .before .before .before .before .before .before .before .ou .ensures .under _) (c .before .before .before .before .before .before .before .before .before .before .before .before .before .before .if2 .left) (ask-second-as (c .before .before .before .before .before .before .before .before .before .before .before .before .before .peek .ensures) (c .before .before .before .before .before .before .before .before .before .before .before .before .peek-second .ensures) (c .before .before .before .before .before .before .before .before .before .before .before .from-slice .ensures .is) (inv-end (c .before .before .before .before .before .before .before .before .before .before .loop .inv .loop .at) (last-cut (if-no (sym (c .before .before .before .before .before .before .before .before .before .is-none .ensures) ∙ c .before .before .before .before .before .before .before .before .if3 .left) (if-yes (sym (c .before .before .before .before .before .before .before .is-tighter .ensures) ∙ c .before .before .before .before .before .before .if4 .taken) (cut (c .before .before .before .before .ne .ensures) (c .if5 .taken)))) (c .if5 .taken))))))
+    scoped (c .before .before .before .before .before .before .before .before .before .before .before .before .before .before .before .before .before .before .before .before .before .before .before .before .flush-ws .ensures) (c .before .before .before .before .before .before .before .before .before .before .before .before .before .before .before .before .before .before .before .before .if1 .left) (spot (c .before .before .before .before .before .before .before .before .before .before .before .before .before .before .before .before .before .before .before .before .before .before .before .before .flush-ws .ensures .under 0 .ready (c .before .before .before .before .before .before .before .before .before .before .before .before .before .before .before .before .before .before .before .before .if1 .left) .looks .next) (both (c .before .before .before .before .before .before .before .before .before .before .before .before .before .before .before .before .before .before .ou .ensures .under _) (c .before .before .before .before .before .before .before .before .before .before .before .before .before .before .if2 .left) (ask-second-as (c .before .before .before .before .before .before .before .before .before .before .before .before .before .peek .ensures) (c .before .before .before .before .before .before .before .before .before .before .before .before .peek-second .ensures) (c .before .before .before .before .before .before .before .before .before .before .before .from-slice .ensures .is) (inv-end (c .before .before .before .before .before .before .before .before .before .before .loop .inv .loop .at) (last-cut (if-no (sym (c .before .before .before .before .before .before .before .before .before .is-none .ensures) ∙ c .before .before .before .before .before .before .before .before .if3 .left) (if-yes (sym (c .before .before .before .before .before .before .before .is-tighter .ensures) ∙ c .before .before .before .before .before .before .if4 .taken) (cut (c .before .before .before .before .n .ensures) (c .if5 .taken)))) (c .if5 .taken))))))
 
 -- src/lib.rt:1499:49
 rd-peek-requires-2 : (t : ℕ) → rd-lts.Need-peek-requires-2 (
@@ -13093,15 +13093,15 @@ rd-peek-requires-2 : (t : ℕ) → rd-lts.Need-peek-requires-2 (
   is-none-reads.Learnt,
   is-tighter-reads.Asked,
   is-tighter-reads.Learnt,
-  ne-below t,
-  ne.Post,
+  n-below t,
+  n.Post,
   clashes-reads.Asked,
   clashes-reads.Learnt,
   refuse-reads.Asked,
   refuse-reads.Learnt,
 ) (rd-at t) rd.Post rd-Inv-loop rd-μ-loop
 rd-peek-requires-2 t c κs =
-    (c .before .before .before .before .ne .ensures .ready (c .if5 .left)) .looks
+    (c .before .before .before .before .n .ensures .ready (c .if5 .left)) .looks
 
 -- src/lib.rt:1499:64
 rd-peek-second-requires-2 : (t : ℕ) → rd-lts.Need-peek-second-requires-2 (
@@ -13119,15 +13119,15 @@ rd-peek-second-requires-2 : (t : ℕ) → rd-lts.Need-peek-second-requires-2 (
   is-none-reads.Learnt,
   is-tighter-reads.Asked,
   is-tighter-reads.Learnt,
-  ne-below t,
-  ne.Post,
+  n-below t,
+  n.Post,
   clashes-reads.Asked,
   clashes-reads.Learnt,
   refuse-reads.Asked,
   refuse-reads.Learnt,
 ) (rd-at t) rd.Post rd-Inv-loop rd-μ-loop
 rd-peek-second-requires-2 t c κs =
-    (c .before .before .before .before .before .ne .ensures .ready (c .before .if5 .left)) .looks
+    (c .before .before .before .before .before .n .ensures .ready (c .before .if5 .left)) .looks
 
 -- src/lib.rt:1499:13
 rd-from-slice-requires-2 : (t : ℕ) → rd-lts.Need-from-slice-requires-2 (
@@ -13145,8 +13145,8 @@ rd-from-slice-requires-2 : (t : ℕ) → rd-lts.Need-from-slice-requires-2 (
   is-none-reads.Learnt,
   is-tighter-reads.Asked,
   is-tighter-reads.Learnt,
-  ne-below t,
-  ne.Post,
+  n-below t,
+  n.Post,
   clashes-reads.Asked,
   clashes-reads.Learnt,
   refuse-reads.Asked,
@@ -13171,15 +13171,15 @@ rd-loop-less : (t : ℕ) → rd-lts.Need-loop-less (
   is-none-reads.Learnt,
   is-tighter-reads.Asked,
   is-tighter-reads.Learnt,
-  ne-below t,
-  ne.Post,
+  n-below t,
+  n.Post,
   clashes-reads.Asked,
   clashes-reads.Learnt,
   refuse-reads.Asked,
   refuse-reads.Learnt,
 ) (rd-at t) rd.Post rd-Inv-loop rd-μ-loop
 rd-loop-less t c =
-    burns (c .before .before .before .before .before .before .before .ne .ensures .ready (c .before .before .before .if5 .left)) (nest-goes (c .before .before .before .before .before .before .before .before .before .before .before .before .before .before .before .before .before .before .before .before .before .before .before .before .before .before .before .before .before .before .before .before .args .op) (c .before .before .before .before .before .before .before .before .before .before .before .before .before .before .before .before .before .before .before .before .before .before .before .before .before .before .before .before .before .before .before .before .args .brace) (c .before .before .before .before .before .before .before .before .before .before .before .before .before .before .before .before .before .before .before .before .before .before .before .before .before .before .before .before .before .before .before .before .args .cx) (c .before .before .before .before .before .before .before .ne .ensures) (c .before .before .before .if5 .left) (c .before .before .before .before .before .before .before .before .before .before .before .before .before .loop .inv .next) (sym (c .before .before .before .before .before .before .before .before .before .before .is-tighter .ensures) ∙ c .before .before .before .before .before .before .before .before .before .if4 .taken))
+    burns (c .before .before .before .before .before .before .before .n .ensures .ready (c .before .before .before .if5 .left)) (nest-goes (c .before .before .before .before .before .before .before .before .before .before .before .before .before .before .before .before .before .before .before .before .before .before .before .before .before .before .before .before .before .before .before .before .args .op) (c .before .before .before .before .before .before .before .before .before .before .before .before .before .before .before .before .before .before .before .before .before .before .before .before .before .before .before .before .before .before .before .before .args .brace) (c .before .before .before .before .before .before .before .before .before .before .before .before .before .before .before .before .before .before .before .before .before .before .before .before .before .before .before .before .before .before .before .before .args .cx) (c .before .before .before .before .before .before .before .n .ensures) (c .before .before .before .if5 .left) (c .before .before .before .before .before .before .before .before .before .before .before .before .before .loop .inv .next) (sym (c .before .before .before .before .before .before .before .before .before .before .is-tighter .ensures) ∙ c .before .before .before .before .before .before .before .before .before .if4 .taken))
 
 -- src/lib.rt:1490:5
 rd-loop-again : (t : ℕ) → rd-lts.Need-loop-again (
@@ -13197,8 +13197,8 @@ rd-loop-again : (t : ℕ) → rd-lts.Need-loop-again (
   is-none-reads.Learnt,
   is-tighter-reads.Asked,
   is-tighter-reads.Learnt,
-  ne-below t,
-  ne.Post,
+  n-below t,
+  n.Post,
   clashes-reads.Asked,
   clashes-reads.Learnt,
   refuse-reads.Asked,
@@ -13206,7 +13206,7 @@ rd-loop-again : (t : ℕ) → rd-lts.Need-loop-again (
 ) (rd-at t) rd.Post rd-Inv-loop rd-μ-loop
 unfolding operand tighter-turn
 rd-loop-again t c =
-    record { loop = record { ready = c .before .before .before .before .before .before .before .ne .ensures .ready (c .before .before .before .if5 .left); at = inv-again (c .before .before .before .before .before .before .before .before .before .before .before .before .before .loop .inv .loop .at) (if-no (sym (c .before .before .before .before .before .before .before .before .before .before .before .before .is-none .ensures) ∙ c .before .before .before .before .before .before .before .before .before .before .before .if3 .left) (if-yes (sym (c .before .before .before .before .before .before .before .before .before .before .is-tighter .ensures) ∙ c .before .before .before .before .before .before .before .before .before .if4 .taken) (both (c .before .before .before .before .before .before .before .ne .ensures) (c .before .before .before .if5 .left) (ask-second-as (c .before .before .peek2 .ensures) (c .before .peek-second2 .ensures) (c .from-slice2 .ensures .is) (nothing (c .before .before .before .before .before .before .before .ne .ensures .ready (c .before .before .before .if5 .left))))))) (c .before .before .before .if5 .left) (nest-goes (c .before .before .before .before .before .before .before .before .before .before .before .before .before .before .before .before .before .before .before .before .before .before .before .before .before .before .before .before .before .before .before .before .args .op) (c .before .before .before .before .before .before .before .before .before .before .before .before .before .before .before .before .before .before .before .before .before .before .before .before .before .before .before .before .before .before .before .before .args .brace) (c .before .before .before .before .before .before .before .before .before .before .before .before .before .before .before .before .before .before .before .before .before .before .before .before .before .before .before .before .before .before .before .before .args .cx) (c .before .before .before .before .before .before .before .ne .ensures) (c .before .before .before .if5 .left) (c .before .before .before .before .before .before .before .before .before .before .before .before .before .loop .inv .next) (sym (c .before .before .before .before .before .before .before .before .before .before .is-tighter .ensures) ∙ c .before .before .before .before .before .before .before .before .before .if4 .taken)) }; next = looked (c .from-slice2 .ensures) (c .before .before .peek2 .ensures) (c .before .peek-second2 .ensures) }
+    record { loop = record { ready = c .before .before .before .before .before .before .before .n .ensures .ready (c .before .before .before .if5 .left); at = inv-again (c .before .before .before .before .before .before .before .before .before .before .before .before .before .loop .inv .loop .at) (if-no (sym (c .before .before .before .before .before .before .before .before .before .before .before .before .is-none .ensures) ∙ c .before .before .before .before .before .before .before .before .before .before .before .if3 .left) (if-yes (sym (c .before .before .before .before .before .before .before .before .before .before .is-tighter .ensures) ∙ c .before .before .before .before .before .before .before .before .before .if4 .taken) (both (c .before .before .before .before .before .before .before .n .ensures) (c .before .before .before .if5 .left) (ask-second-as (c .before .before .peek2 .ensures) (c .before .peek-second2 .ensures) (c .from-slice2 .ensures .is) (nothing (c .before .before .before .before .before .before .before .n .ensures .ready (c .before .before .before .if5 .left))))))) (c .before .before .before .if5 .left) (nest-goes (c .before .before .before .before .before .before .before .before .before .before .before .before .before .before .before .before .before .before .before .before .before .before .before .before .before .before .before .before .before .before .before .before .args .op) (c .before .before .before .before .before .before .before .before .before .before .before .before .before .before .before .before .before .before .before .before .before .before .before .before .before .before .before .before .before .before .before .before .args .brace) (c .before .before .before .before .before .before .before .before .before .before .before .before .before .before .before .before .before .before .before .before .before .before .before .before .before .before .before .before .before .before .before .before .args .cx) (c .before .before .before .before .before .before .before .n .ensures) (c .before .before .before .if5 .left) (c .before .before .before .before .before .before .before .before .before .before .before .before .before .loop .inv .next) (sym (c .before .before .before .before .before .before .before .before .before .before .is-tighter .ensures) ∙ c .before .before .before .before .before .before .before .before .before .if4 .taken)) }; next = looked (c .from-slice2 .ensures) (c .before .before .peek2 .ensures) (c .before .peek-second2 .ensures) }
 
 -- src/lib.rt:1502:12
 rd-clashes-requires : (t : ℕ) → rd-lts.Need-clashes-requires (
@@ -13224,8 +13224,8 @@ rd-clashes-requires : (t : ℕ) → rd-lts.Need-clashes-requires (
   is-none-reads.Learnt,
   is-tighter-reads.Asked,
   is-tighter-reads.Learnt,
-  ne-below t,
-  ne.Post,
+  n-below t,
+  n.Post,
   clashes-reads.Asked,
   clashes-reads.Learnt,
   refuse-reads.Asked,
@@ -13250,8 +13250,8 @@ rd-refuse-requires : (t : ℕ) → rd-lts.Need-refuse-requires (
   is-none-reads.Learnt,
   is-tighter-reads.Asked,
   is-tighter-reads.Learnt,
-  ne-below t,
-  ne.Post,
+  n-below t,
+  n.Post,
   clashes-reads.Asked,
   clashes-reads.Learnt,
   refuse-reads.Asked,
@@ -13276,8 +13276,8 @@ rd-same-length-5 : (t : ℕ) → rd-lts.Need-same-length-5 (
   is-none-reads.Learnt,
   is-tighter-reads.Asked,
   is-tighter-reads.Learnt,
-  ne-below t,
-  ne.Post,
+  n-below t,
+  n.Post,
   clashes-reads.Asked,
   clashes-reads.Learnt,
   refuse-reads.Asked,
@@ -13302,8 +13302,8 @@ rd-returns-5 : (t : ℕ) → rd-lts.Need-returns-5 (
   is-none-reads.Learnt,
   is-tighter-reads.Asked,
   is-tighter-reads.Learnt,
-  ne-below t,
-  ne.Post,
+  n-below t,
+  n.Post,
   clashes-reads.Asked,
   clashes-reads.Learnt,
   refuse-reads.Asked,
@@ -13329,8 +13329,8 @@ rd-same-length-6 : (t : ℕ) → rd-lts.Need-same-length-6 (
   is-none-reads.Learnt,
   is-tighter-reads.Asked,
   is-tighter-reads.Learnt,
-  ne-below t,
-  ne.Post,
+  n-below t,
+  n.Post,
   clashes-reads.Asked,
   clashes-reads.Learnt,
   refuse-reads.Asked,
@@ -13355,8 +13355,8 @@ rd-returns-6 : (t : ℕ) → rd-lts.Need-returns-6 (
   is-none-reads.Learnt,
   is-tighter-reads.Asked,
   is-tighter-reads.Learnt,
-  ne-below t,
-  ne.Post,
+  n-below t,
+  n.Post,
   clashes-reads.Asked,
   clashes-reads.Learnt,
   refuse-reads.Asked,
@@ -13641,403 +13641,403 @@ rr-returns-4 t c =
     both (c .before .before .before .before .before .before .before .before .before .before .before .before .bump .ensures .under _) (c .before .before .before .before .before .before .before .before .if1 .left) (ask-glued (c .before .before .before .before .before .before .before .peek .ensures) (c .before .before .before .before .before .before .glued .ensures) (if-no (sym (c .before .before .before .before .before .is-expr-with .ensures) ∙ c .before .before .before .before .if2 .left) (c .before .before .finish2 .ensures)))
 
 -- src/lib.rt:1808:13
-s2-it-requires : (t : ℕ) → s2-lts.Need-it-requires (
+s-it-requires : (t : ℕ) → s-lts.Need-it-requires (
   it-below t,
   it.Post,
   item-end-reads.Asked,
   item-end-reads.Learnt,
-  ii-below t,
-  ii.Post,
+  i-below t,
+  i.Post,
   im-below t,
   im.Post,
   s3-below t,
   s3.Post,
-) (s2-at t) s2.Post
-s2-it-requires t c κs =
+) (s-at t) s.Post
+s-it-requires t c κs =
     (omega (arith, c .before .before .before .before .before .pre .0), c .before .before .before .before .before .pre .1 .1)
 
 -- src/lib.rt:1810:13
-s2-same-length : (t : ℕ) → s2-lts.Need-same-length (
+s-same-length : (t : ℕ) → s-lts.Need-same-length (
   it-below t,
   it.Post,
   item-end-reads.Asked,
   item-end-reads.Learnt,
-  ii-below t,
-  ii.Post,
+  i-below t,
+  i.Post,
   im-below t,
   im.Post,
   s3-below t,
   s3.Post,
-) (s2-at t) s2.Post
-s2-same-length t c =
+) (s-at t) s.Post
+s-same-length t c =
     c .before .before .before .before .it .ensures .under 0 .len
 
 -- src/lib.rt:1810:13
-s2-returns : (t : ℕ) → s2-lts.Need-returns (
+s-returns : (t : ℕ) → s-lts.Need-returns (
   it-below t,
   it.Post,
   item-end-reads.Asked,
   item-end-reads.Learnt,
-  ii-below t,
-  ii.Post,
+  i-below t,
+  i.Post,
   im-below t,
   im.Post,
   s3-below t,
   s3.Post,
-) (s2-at t) s2.Post
+) (s-at t) s.Post
 unfolding stmt-block stmt-mod
-s2-returns t c =
+s-returns t c =
     if-yes (eq-eqb _ _ (c .before .before .before .before .before .before .if1 .taken)) (cut (c .before .before .before .before .it .ensures .under _) (c .if2 .taken))
 
 -- src/lib.rt:1812:9
-s2-item-end-requires : (t : ℕ) → s2-lts.Need-item-end-requires (
+s-item-end-requires : (t : ℕ) → s-lts.Need-item-end-requires (
   it-below t,
   it.Post,
   item-end-reads.Asked,
   item-end-reads.Learnt,
-  ii-below t,
-  ii.Post,
+  i-below t,
+  i.Post,
   im-below t,
   im.Post,
   s3-below t,
   s3.Post,
-) (s2-at t) s2.Post
-s2-item-end-requires t c κs =
+) (s-at t) s.Post
+s-item-end-requires t c κs =
     (step-marked (c .before .before .before .before .before .it .ensures .under _) (c .before .if2 .left) (c .before .before .before .before .before .before .before .before .before .before .before .pre .1 .0), c .before .before .before .before .before .it .ensures .under 0 .ready (c .before .if2 .left))
 
 -- src/lib.rt:1812:9
-s2-same-length-2 : (t : ℕ) → s2-lts.Need-same-length-2 (
+s-same-length-2 : (t : ℕ) → s-lts.Need-same-length-2 (
   it-below t,
   it.Post,
   item-end-reads.Asked,
   item-end-reads.Learnt,
-  ii-below t,
-  ii.Post,
+  i-below t,
+  i.Post,
   im-below t,
   im.Post,
   s3-below t,
   s3.Post,
-) (s2-at t) s2.Post
-s2-same-length-2 t c =
+) (s-at t) s.Post
+s-same-length-2 t c =
     c .before .before .item-end .ensures .len ∙ (c .before .before .before .before .before .before .before .before .it .ensures .under 0 .len)
 
 -- src/lib.rt:1812:9
-s2-returns-2 : (t : ℕ) → s2-lts.Need-returns-2 (
+s-returns-2 : (t : ℕ) → s-lts.Need-returns-2 (
   it-below t,
   it.Post,
   item-end-reads.Asked,
   item-end-reads.Learnt,
-  ii-below t,
-  ii.Post,
+  i-below t,
+  i.Post,
   im-below t,
   im.Post,
   s3-below t,
   s3.Post,
-) (s2-at t) s2.Post
+) (s-at t) s.Post
 unfolding stmt-block stmt-mod
-s2-returns-2 t c =
+s-returns-2 t c =
     if-yes (eq-eqb _ _ (c .before .before .before .before .before .before .before .before .before .before .if1 .taken)) (both (c .before .before .before .before .before .before .before .before .it .ensures .under _) (c .before .before .before .before .if2 .left) (c .before .before .item-end .ensures))
 
 -- src/lib.rt:1815:13
-s2-ii-requires : (t : ℕ) → s2-lts.Need-ii-requires (
+s-i-requires : (t : ℕ) → s-lts.Need-i-requires (
   it-below t,
   it.Post,
   item-end-reads.Asked,
   item-end-reads.Learnt,
-  ii-below t,
-  ii.Post,
+  i-below t,
+  i.Post,
   im-below t,
   im.Post,
   s3-below t,
   s3.Post,
-) (s2-at t) s2.Post
-s2-ii-requires t c κs =
+) (s-at t) s.Post
+s-i-requires t c κs =
     (omega (arith, c .before .before .before .before .before .before .pre .0), c .before .before .before .before .before .before .pre .1 .1)
 
 -- src/lib.rt:1817:13
-s2-same-length-3 : (t : ℕ) → s2-lts.Need-same-length-3 (
+s-same-length-3 : (t : ℕ) → s-lts.Need-same-length-3 (
   it-below t,
   it.Post,
   item-end-reads.Asked,
   item-end-reads.Learnt,
-  ii-below t,
-  ii.Post,
+  i-below t,
+  i.Post,
   im-below t,
   im.Post,
   s3-below t,
   s3.Post,
-) (s2-at t) s2.Post
-s2-same-length-3 t c =
-    c .before .before .before .before .ii .ensures .under 0 .len
+) (s-at t) s.Post
+s-same-length-3 t c =
+    c .before .before .before .before .i .ensures .under 0 .len
 
 -- src/lib.rt:1817:13
-s2-returns-3 : (t : ℕ) → s2-lts.Need-returns-3 (
+s-returns-3 : (t : ℕ) → s-lts.Need-returns-3 (
   it-below t,
   it.Post,
   item-end-reads.Asked,
   item-end-reads.Learnt,
-  ii-below t,
-  ii.Post,
+  i-below t,
+  i.Post,
   im-below t,
   im.Post,
   s3-below t,
   s3.Post,
-) (s2-at t) s2.Post
+) (s-at t) s.Post
 unfolding stmt-block stmt-mod
-s2-returns-3 t c =
-    if-no (ne-eqb _ _ (c .before .before .before .before .before .before .before .if1 .left)) (if-yes (eq-eqb _ _ (c .before .before .before .before .before .before .if3 .taken)) (cut (c .before .before .before .before .ii .ensures .under _) (c .if4 .taken)))
+s-returns-3 t c =
+    if-no (ne-eqb _ _ (c .before .before .before .before .before .before .before .if1 .left)) (if-yes (eq-eqb _ _ (c .before .before .before .before .before .before .if3 .taken)) (cut (c .before .before .before .before .i .ensures .under _) (c .if4 .taken)))
 
 -- src/lib.rt:1819:9
-s2-item-end-requires-2 : (t : ℕ) → s2-lts.Need-item-end-requires-2 (
+s-item-end-requires-2 : (t : ℕ) → s-lts.Need-item-end-requires-2 (
   it-below t,
   it.Post,
   item-end-reads.Asked,
   item-end-reads.Learnt,
-  ii-below t,
-  ii.Post,
+  i-below t,
+  i.Post,
   im-below t,
   im.Post,
   s3-below t,
   s3.Post,
-) (s2-at t) s2.Post
-s2-item-end-requires-2 t c κs =
-    (step-marked (c .before .before .before .before .before .ii .ensures .under _) (c .before .if4 .left) (c .before .before .before .before .before .before .before .before .before .before .before .before .pre .1 .0), c .before .before .before .before .before .ii .ensures .under 0 .ready (c .before .if4 .left))
+) (s-at t) s.Post
+s-item-end-requires-2 t c κs =
+    (step-marked (c .before .before .before .before .before .i .ensures .under _) (c .before .if4 .left) (c .before .before .before .before .before .before .before .before .before .before .before .before .pre .1 .0), c .before .before .before .before .before .i .ensures .under 0 .ready (c .before .if4 .left))
 
 -- src/lib.rt:1819:9
-s2-same-length-4 : (t : ℕ) → s2-lts.Need-same-length-4 (
+s-same-length-4 : (t : ℕ) → s-lts.Need-same-length-4 (
   it-below t,
   it.Post,
   item-end-reads.Asked,
   item-end-reads.Learnt,
-  ii-below t,
-  ii.Post,
+  i-below t,
+  i.Post,
   im-below t,
   im.Post,
   s3-below t,
   s3.Post,
-) (s2-at t) s2.Post
-s2-same-length-4 t c =
-    c .before .before .item-end2 .ensures .len ∙ (c .before .before .before .before .before .before .before .before .ii .ensures .under 0 .len)
+) (s-at t) s.Post
+s-same-length-4 t c =
+    c .before .before .item-end2 .ensures .len ∙ (c .before .before .before .before .before .before .before .before .i .ensures .under 0 .len)
 
 -- src/lib.rt:1819:9
-s2-returns-4 : (t : ℕ) → s2-lts.Need-returns-4 (
+s-returns-4 : (t : ℕ) → s-lts.Need-returns-4 (
   it-below t,
   it.Post,
   item-end-reads.Asked,
   item-end-reads.Learnt,
-  ii-below t,
-  ii.Post,
+  i-below t,
+  i.Post,
   im-below t,
   im.Post,
   s3-below t,
   s3.Post,
-) (s2-at t) s2.Post
+) (s-at t) s.Post
 unfolding stmt-block stmt-mod
-s2-returns-4 t c =
-    if-no (ne-eqb _ _ (c .before .before .before .before .before .before .before .before .before .before .before .if1 .left)) (if-yes (eq-eqb _ _ (c .before .before .before .before .before .before .before .before .before .before .if3 .taken)) (both (c .before .before .before .before .before .before .before .before .ii .ensures .under _) (c .before .before .before .before .if4 .left) (c .before .before .item-end2 .ensures)))
+s-returns-4 t c =
+    if-no (ne-eqb _ _ (c .before .before .before .before .before .before .before .before .before .before .before .if1 .left)) (if-yes (eq-eqb _ _ (c .before .before .before .before .before .before .before .before .before .before .if3 .taken)) (both (c .before .before .before .before .before .before .before .before .i .ensures .under _) (c .before .before .before .before .if4 .left) (c .before .before .item-end2 .ensures)))
 
 -- src/lib.rt:1822:13
-s2-im-requires : (t : ℕ) → s2-lts.Need-im-requires (
+s-im-requires : (t : ℕ) → s-lts.Need-im-requires (
   it-below t,
   it.Post,
   item-end-reads.Asked,
   item-end-reads.Learnt,
-  ii-below t,
-  ii.Post,
+  i-below t,
+  i.Post,
   im-below t,
   im.Post,
   s3-below t,
   s3.Post,
-) (s2-at t) s2.Post
-s2-im-requires t c κs =
+) (s-at t) s.Post
+s-im-requires t c κs =
     (omega (arith, c .before .before .before .before .before .before .before .pre .0), c .before .before .before .before .before .before .before .pre .1 .1)
 
 -- src/lib.rt:1824:13
-s2-same-length-5 : (t : ℕ) → s2-lts.Need-same-length-5 (
+s-same-length-5 : (t : ℕ) → s-lts.Need-same-length-5 (
   it-below t,
   it.Post,
   item-end-reads.Asked,
   item-end-reads.Learnt,
-  ii-below t,
-  ii.Post,
+  i-below t,
+  i.Post,
   im-below t,
   im.Post,
   s3-below t,
   s3.Post,
-) (s2-at t) s2.Post
-s2-same-length-5 t c =
+) (s-at t) s.Post
+s-same-length-5 t c =
     c .before .before .before .before .im .ensures .under 0 .len
 
 -- src/lib.rt:1824:13
-s2-returns-5 : (t : ℕ) → s2-lts.Need-returns-5 (
+s-returns-5 : (t : ℕ) → s-lts.Need-returns-5 (
   it-below t,
   it.Post,
   item-end-reads.Asked,
   item-end-reads.Learnt,
-  ii-below t,
-  ii.Post,
+  i-below t,
+  i.Post,
   im-below t,
   im.Post,
   s3-below t,
   s3.Post,
-) (s2-at t) s2.Post
+) (s-at t) s.Post
 unfolding stmt-block stmt-mod
-s2-returns-5 t c =
+s-returns-5 t c =
     if-no (ne-eqb _ _ (c .before .before .before .before .before .before .before .before .if1 .left)) (if-no (ne-eqb _ _ (c .before .before .before .before .before .before .before .if3 .left)) (if-yes (eq-eqb _ _ (c .before .before .before .before .before .before .if5 .taken)) (cut (c .before .before .before .before .im .ensures .under _) (c .if6 .taken))))
 
 -- src/lib.rt:1827:13
-s2-item-end-requires-3 : (t : ℕ) → s2-lts.Need-item-end-requires-3 (
+s-item-end-requires-3 : (t : ℕ) → s-lts.Need-item-end-requires-3 (
   it-below t,
   it.Post,
   item-end-reads.Asked,
   item-end-reads.Learnt,
-  ii-below t,
-  ii.Post,
+  i-below t,
+  i.Post,
   im-below t,
   im.Post,
   s3-below t,
   s3.Post,
-) (s2-at t) s2.Post
-s2-item-end-requires-3 t c κs =
+) (s-at t) s.Post
+s-item-end-requires-3 t c κs =
     (step-marked (c .before .before .before .before .before .before .before .im .ensures .under _) (c .before .before .before .if6 .left) (c .before .before .before .before .before .before .before .before .before .before .before .before .before .before .before .pre .1 .0), c .before .before .before .before .before .before .before .im .ensures .under 0 .ready (c .before .before .before .if6 .left))
 
 -- src/lib.rt:1827:13
-s2-same-length-6 : (t : ℕ) → s2-lts.Need-same-length-6 (
+s-same-length-6 : (t : ℕ) → s-lts.Need-same-length-6 (
   it-below t,
   it.Post,
   item-end-reads.Asked,
   item-end-reads.Learnt,
-  ii-below t,
-  ii.Post,
+  i-below t,
+  i.Post,
   im-below t,
   im.Post,
   s3-below t,
   s3.Post,
-) (s2-at t) s2.Post
-s2-same-length-6 t c =
+) (s-at t) s.Post
+s-same-length-6 t c =
     c .before .before .item-end3 .ensures .len ∙ (c .before .before .before .before .before .before .before .before .before .before .im .ensures .under 0 .len)
 
 -- src/lib.rt:1827:13
-s2-returns-6 : (t : ℕ) → s2-lts.Need-returns-6 (
+s-returns-6 : (t : ℕ) → s-lts.Need-returns-6 (
   it-below t,
   it.Post,
   item-end-reads.Asked,
   item-end-reads.Learnt,
-  ii-below t,
-  ii.Post,
+  i-below t,
+  i.Post,
   im-below t,
   im.Post,
   s3-below t,
   s3.Post,
-) (s2-at t) s2.Post
+) (s-at t) s.Post
 unfolding stmt-block stmt-mod
-s2-returns-6 t c =
+s-returns-6 t c =
     if-no (ne-eqb _ _ (c .before .before .before .before .before .before .before .before .before .before .before .before .before .before .if1 .left)) (if-no (ne-eqb _ _ (c .before .before .before .before .before .before .before .before .before .before .before .before .before .if3 .left)) (if-yes (eq-eqb _ _ (c .before .before .before .before .before .before .before .before .before .before .before .before .if5 .taken)) (both (c .before .before .before .before .before .before .before .before .before .before .im .ensures .under _) (c .before .before .before .before .before .before .if6 .left) (if-yes (eq-eqb _ _ (c .before .before .before .before .if7 .taken)) (c .before .before .item-end3 .ensures)))))
 
 -- src/lib.rt:1829:9
-s2-item-end-requires-4 : (t : ℕ) → s2-lts.Need-item-end-requires-4 (
+s-item-end-requires-4 : (t : ℕ) → s-lts.Need-item-end-requires-4 (
   it-below t,
   it.Post,
   item-end-reads.Asked,
   item-end-reads.Learnt,
-  ii-below t,
-  ii.Post,
+  i-below t,
+  i.Post,
   im-below t,
   im.Post,
   s3-below t,
   s3.Post,
-) (s2-at t) s2.Post
-s2-item-end-requires-4 t c κs =
+) (s-at t) s.Post
+s-item-end-requires-4 t c κs =
     (step-marked (c .before .before .before .before .before .before .before .im .ensures .under _) (c .before .before .before .if6 .left) (c .before .before .before .before .before .before .before .before .before .before .before .before .before .before .before .pre .1 .0), c .before .before .before .before .before .before .before .im .ensures .under 0 .ready (c .before .before .before .if6 .left))
 
 -- src/lib.rt:1829:9
-s2-same-length-7 : (t : ℕ) → s2-lts.Need-same-length-7 (
+s-same-length-7 : (t : ℕ) → s-lts.Need-same-length-7 (
   it-below t,
   it.Post,
   item-end-reads.Asked,
   item-end-reads.Learnt,
-  ii-below t,
-  ii.Post,
+  i-below t,
+  i.Post,
   im-below t,
   im.Post,
   s3-below t,
   s3.Post,
-) (s2-at t) s2.Post
-s2-same-length-7 t c =
+) (s-at t) s.Post
+s-same-length-7 t c =
     c .before .before .item-end4 .ensures .len ∙ (c .before .before .before .before .before .before .before .before .before .before .im .ensures .under 0 .len)
 
 -- src/lib.rt:1829:9
-s2-returns-7 : (t : ℕ) → s2-lts.Need-returns-7 (
+s-returns-7 : (t : ℕ) → s-lts.Need-returns-7 (
   it-below t,
   it.Post,
   item-end-reads.Asked,
   item-end-reads.Learnt,
-  ii-below t,
-  ii.Post,
+  i-below t,
+  i.Post,
   im-below t,
   im.Post,
   s3-below t,
   s3.Post,
-) (s2-at t) s2.Post
+) (s-at t) s.Post
 unfolding stmt-block stmt-mod
-s2-returns-7 t c =
+s-returns-7 t c =
     if-no (ne-eqb _ _ (c .before .before .before .before .before .before .before .before .before .before .before .before .before .before .if1 .left)) (if-no (ne-eqb _ _ (c .before .before .before .before .before .before .before .before .before .before .before .before .before .if3 .left)) (if-yes (eq-eqb _ _ (c .before .before .before .before .before .before .before .before .before .before .before .before .if5 .taken)) (both (c .before .before .before .before .before .before .before .before .before .before .im .ensures .under _) (c .before .before .before .before .before .before .if6 .left) (if-no (ne-eqb _ _ (c .before .before .before .before .if7 .left)) (c .before .before .item-end4 .ensures)))))
 
 -- src/lib.rt:1831:5
-s2-s3-requires : (t : ℕ) → s2-lts.Need-s3-requires (
+s-s3-requires : (t : ℕ) → s-lts.Need-s3-requires (
   it-below t,
   it.Post,
   item-end-reads.Asked,
   item-end-reads.Learnt,
-  ii-below t,
-  ii.Post,
+  i-below t,
+  i.Post,
   im-below t,
   im.Post,
   s3-below t,
   s3.Post,
-) (s2-at t) s2.Post
-s2-s3-requires t c κs =
+) (s-at t) s.Post
+s-s3-requires t c κs =
     (omega (arith, c .before .before .before .before .before .before .before .pre .0), (c .before .before .before .before .before .before .before .pre .1 .0, c .before .before .before .before .before .before .before .pre .1 .1))
 
 -- src/lib.rt:1795:1
-s2-same-length-8 : (t : ℕ) → s2-lts.Need-same-length-8 (
+s-same-length-8 : (t : ℕ) → s-lts.Need-same-length-8 (
   it-below t,
   it.Post,
   item-end-reads.Asked,
   item-end-reads.Learnt,
-  ii-below t,
-  ii.Post,
+  i-below t,
+  i.Post,
   im-below t,
   im.Post,
   s3-below t,
   s3.Post,
-) (s2-at t) s2.Post
-s2-same-length-8 t c =
+) (s-at t) s.Post
+s-same-length-8 t c =
     c .before .before .s3 .ensures .len
 
 -- src/lib.rt:1795:1
-s2-returns-8 : (t : ℕ) → s2-lts.Need-returns-8 (
+s-returns-8 : (t : ℕ) → s-lts.Need-returns-8 (
   it-below t,
   it.Post,
   item-end-reads.Asked,
   item-end-reads.Learnt,
-  ii-below t,
-  ii.Post,
+  i-below t,
+  i.Post,
   im-below t,
   im.Post,
   s3-below t,
   s3.Post,
-) (s2-at t) s2.Post
+) (s-at t) s.Post
 unfolding stmt-block stmt-mod
-s2-returns-8 t c =
+s-returns-8 t c =
     if-no (ne-eqb _ _ (c .before .before .before .before .before .before .if1 .left)) (if-no (ne-eqb _ _ (c .before .before .before .before .before .if3 .left)) (if-no (ne-eqb _ _ (c .before .before .before .before .if5 .left)) (c .before .before .s3 .ensures)))
 
 -- src/lib.rt:1846:8
 s3-allows-requires : (t : ℕ) → s3-lts.Need-allows-requires (
   allows-reads.Asked,
   allows-reads.Learnt,
-  ic-below t,
-  ic.Post,
+  h-below t,
+  h.Post,
   item-end-reads.Asked,
   item-end-reads.Learnt,
   labels-reads.Asked,
@@ -14049,11 +14049,11 @@ s3-allows-requires t c κs =
     search needs
 
 -- src/lib.rt:1847:13
-s3-ic-requires : (t : ℕ) → s3-lts.Need-ic-requires (
+s3-h-requires : (t : ℕ) → s3-lts.Need-h-requires (
   allows-reads.Asked,
   allows-reads.Learnt,
-  ic-below t,
-  ic.Post,
+  h-below t,
+  h.Post,
   item-end-reads.Asked,
   item-end-reads.Learnt,
   labels-reads.Asked,
@@ -14061,15 +14061,15 @@ s3-ic-requires : (t : ℕ) → s3-lts.Need-ic-requires (
   ou-below t,
   ou.Post,
 ) (s3-at t) s3.Post
-s3-ic-requires t c κs =
+s3-h-requires t c κs =
     (omega (arith, c .before .before .before .before .before .before .pre .0), c .before .before .before .before .before .before .pre .1 .1)
 
 -- src/lib.rt:1849:13
 s3-same-length : (t : ℕ) → s3-lts.Need-same-length (
   allows-reads.Asked,
   allows-reads.Learnt,
-  ic-below t,
-  ic.Post,
+  h-below t,
+  h.Post,
   item-end-reads.Asked,
   item-end-reads.Learnt,
   labels-reads.Asked,
@@ -14078,14 +14078,14 @@ s3-same-length : (t : ℕ) → s3-lts.Need-same-length (
   ou.Post,
 ) (s3-at t) s3.Post
 s3-same-length t c =
-    c .before .before .before .before .ic .ensures .under 0 .len
+    c .before .before .before .before .h .ensures .under 0 .len
 
 -- src/lib.rt:1849:13
 s3-returns : (t : ℕ) → s3-lts.Need-returns (
   allows-reads.Asked,
   allows-reads.Learnt,
-  ic-below t,
-  ic.Post,
+  h-below t,
+  h.Post,
   item-end-reads.Asked,
   item-end-reads.Learnt,
   labels-reads.Asked,
@@ -14095,14 +14095,14 @@ s3-returns : (t : ℕ) → s3-lts.Need-returns (
 ) (s3-at t) s3.Post
 unfolding stmt-value stmt-expr
 s3-returns t c =
-    if-yes (sym (c .before .before .before .before .before .before .before .allows .ensures) ∙ c .before .before .before .before .before .before .if1 .taken) (cut (c .before .before .before .before .ic .ensures .under _) (c .if2 .taken))
+    if-yes (sym (c .before .before .before .before .before .before .before .allows .ensures) ∙ c .before .before .before .before .before .before .if1 .taken) (cut (c .before .before .before .before .h .ensures .under _) (c .if2 .taken))
 
 -- src/lib.rt:1851:9
 s3-item-end-requires : (t : ℕ) → s3-lts.Need-item-end-requires (
   allows-reads.Asked,
   allows-reads.Learnt,
-  ic-below t,
-  ic.Post,
+  h-below t,
+  h.Post,
   item-end-reads.Asked,
   item-end-reads.Learnt,
   labels-reads.Asked,
@@ -14111,14 +14111,14 @@ s3-item-end-requires : (t : ℕ) → s3-lts.Need-item-end-requires (
   ou.Post,
 ) (s3-at t) s3.Post
 s3-item-end-requires t c κs =
-    (step-marked (c .before .before .before .before .before .ic .ensures .under _) (c .before .if2 .left) (c .before .before .before .before .before .before .before .before .before .before .before .before .pre .1 .0), c .before .before .before .before .before .ic .ensures .under 0 .ready (c .before .if2 .left))
+    (step-marked (c .before .before .before .before .before .h .ensures .under _) (c .before .if2 .left) (c .before .before .before .before .before .before .before .before .before .before .before .before .pre .1 .0), c .before .before .before .before .before .h .ensures .under 0 .ready (c .before .if2 .left))
 
 -- src/lib.rt:1851:9
 s3-same-length-2 : (t : ℕ) → s3-lts.Need-same-length-2 (
   allows-reads.Asked,
   allows-reads.Learnt,
-  ic-below t,
-  ic.Post,
+  h-below t,
+  h.Post,
   item-end-reads.Asked,
   item-end-reads.Learnt,
   labels-reads.Asked,
@@ -14127,14 +14127,14 @@ s3-same-length-2 : (t : ℕ) → s3-lts.Need-same-length-2 (
   ou.Post,
 ) (s3-at t) s3.Post
 s3-same-length-2 t c =
-    c .before .before .item-end .ensures .len ∙ (c .before .before .before .before .before .before .before .before .ic .ensures .under 0 .len)
+    c .before .before .item-end .ensures .len ∙ (c .before .before .before .before .before .before .before .before .h .ensures .under 0 .len)
 
 -- src/lib.rt:1851:9
 s3-returns-2 : (t : ℕ) → s3-lts.Need-returns-2 (
   allows-reads.Asked,
   allows-reads.Learnt,
-  ic-below t,
-  ic.Post,
+  h-below t,
+  h.Post,
   item-end-reads.Asked,
   item-end-reads.Learnt,
   labels-reads.Asked,
@@ -14144,14 +14144,14 @@ s3-returns-2 : (t : ℕ) → s3-lts.Need-returns-2 (
 ) (s3-at t) s3.Post
 unfolding stmt-value stmt-expr
 s3-returns-2 t c =
-    if-yes (sym (c .before .before .before .before .before .before .before .before .before .before .before .allows .ensures) ∙ c .before .before .before .before .before .before .before .before .before .before .if1 .taken) (both (c .before .before .before .before .before .before .before .before .ic .ensures .under _) (c .before .before .before .before .if2 .left) (c .before .before .item-end .ensures))
+    if-yes (sym (c .before .before .before .before .before .before .before .before .before .before .before .allows .ensures) ∙ c .before .before .before .before .before .before .before .before .before .before .if1 .taken) (both (c .before .before .before .before .before .before .before .before .h .ensures .under _) (c .before .before .before .before .if2 .left) (c .before .before .item-end .ensures))
 
 -- src/lib.rt:1853:9
 s3-labels-requires : (t : ℕ) → s3-lts.Need-labels-requires (
   allows-reads.Asked,
   allows-reads.Learnt,
-  ic-below t,
-  ic.Post,
+  h-below t,
+  h.Post,
   item-end-reads.Asked,
   item-end-reads.Learnt,
   labels-reads.Asked,
@@ -14166,8 +14166,8 @@ s3-labels-requires t c κs =
 s3-same-length-3 : (t : ℕ) → s3-lts.Need-same-length-3 (
   allows-reads.Asked,
   allows-reads.Learnt,
-  ic-below t,
-  ic.Post,
+  h-below t,
+  h.Post,
   item-end-reads.Asked,
   item-end-reads.Learnt,
   labels-reads.Asked,
@@ -14182,8 +14182,8 @@ s3-same-length-3 t c =
 s3-returns-3 : (t : ℕ) → s3-lts.Need-returns-3 (
   allows-reads.Asked,
   allows-reads.Learnt,
-  ic-below t,
-  ic.Post,
+  h-below t,
+  h.Post,
   item-end-reads.Asked,
   item-end-reads.Learnt,
   labels-reads.Asked,
@@ -14199,8 +14199,8 @@ s3-returns-3 t c =
 s3-ou-requires : (t : ℕ) → s3-lts.Need-ou-requires (
   allows-reads.Asked,
   allows-reads.Learnt,
-  ic-below t,
-  ic.Post,
+  h-below t,
+  h.Post,
   item-end-reads.Asked,
   item-end-reads.Learnt,
   labels-reads.Asked,
@@ -14215,8 +14215,8 @@ s3-ou-requires t c κs =
 s3-same-length-4 : (t : ℕ) → s3-lts.Need-same-length-4 (
   allows-reads.Asked,
   allows-reads.Learnt,
-  ic-below t,
-  ic.Post,
+  h-below t,
+  h.Post,
   item-end-reads.Asked,
   item-end-reads.Learnt,
   labels-reads.Asked,
@@ -14231,8 +14231,8 @@ s3-same-length-4 t c =
 s3-returns-4 : (t : ℕ) → s3-lts.Need-returns-4 (
   allows-reads.Asked,
   allows-reads.Learnt,
-  ic-below t,
-  ic.Post,
+  h-below t,
+  h.Post,
   item-end-reads.Asked,
   item-end-reads.Learnt,
   labels-reads.Asked,
@@ -14248,8 +14248,8 @@ s3-returns-4 t c =
 s3-same-length-5 : (t : ℕ) → s3-lts.Need-same-length-5 (
   allows-reads.Asked,
   allows-reads.Learnt,
-  ic-below t,
-  ic.Post,
+  h-below t,
+  h.Post,
   item-end-reads.Asked,
   item-end-reads.Learnt,
   labels-reads.Asked,
@@ -14264,8 +14264,8 @@ s3-same-length-5 t c =
 s3-returns-5 : (t : ℕ) → s3-lts.Need-returns-5 (
   allows-reads.Asked,
   allows-reads.Learnt,
-  ic-below t,
-  ic.Post,
+  h-below t,
+  h.Post,
   item-end-reads.Asked,
   item-end-reads.Learnt,
   labels-reads.Asked,
@@ -14281,8 +14281,8 @@ s3-returns-5 t c =
 s3-same-length-6 : (t : ℕ) → s3-lts.Need-same-length-6 (
   allows-reads.Asked,
   allows-reads.Learnt,
-  ic-below t,
-  ic.Post,
+  h-below t,
+  h.Post,
   item-end-reads.Asked,
   item-end-reads.Learnt,
   labels-reads.Asked,
@@ -14297,8 +14297,8 @@ s3-same-length-6 t c =
 s3-returns-6 : (t : ℕ) → s3-lts.Need-returns-6 (
   allows-reads.Asked,
   allows-reads.Learnt,
-  ic-below t,
-  ic.Post,
+  h-below t,
+  h.Post,
   item-end-reads.Asked,
   item-end-reads.Learnt,
   labels-reads.Asked,
@@ -14517,8 +14517,8 @@ sc-flush-ws-requires : (t : ℕ) → sc-lts.Need-flush-ws-requires (
   flush-ws-reads.Learnt,
   sp-below t,
   sp.Post,
-  ea-below t,
-  ea.Post,
+  e-below t,
+  e.Post,
   close-at-reads.Asked,
   close-at-reads.Learnt,
 ) (sc-at t) sc.Post
@@ -14531,8 +14531,8 @@ sc-same-length : (t : ℕ) → sc-lts.Need-same-length (
   flush-ws-reads.Learnt,
   sp-below t,
   sp.Post,
-  ea-below t,
-  ea.Post,
+  e-below t,
+  e.Post,
   close-at-reads.Asked,
   close-at-reads.Learnt,
 ) (sc-at t) sc.Post
@@ -14545,8 +14545,8 @@ sc-returns : (t : ℕ) → sc-lts.Need-returns (
   flush-ws-reads.Learnt,
   sp-below t,
   sp.Post,
-  ea-below t,
-  ea.Post,
+  e-below t,
+  e.Post,
   close-at-reads.Asked,
   close-at-reads.Learnt,
 ) (sc-at t) sc.Post
@@ -14560,8 +14560,8 @@ sc-sp-requires : (t : ℕ) → sc-lts.Need-sp-requires (
   flush-ws-reads.Learnt,
   sp-below t,
   sp.Post,
-  ea-below t,
-  ea.Post,
+  e-below t,
+  e.Post,
   close-at-reads.Asked,
   close-at-reads.Learnt,
 ) (sc-at t) sc.Post
@@ -14574,8 +14574,8 @@ sc-same-length-2 : (t : ℕ) → sc-lts.Need-same-length-2 (
   flush-ws-reads.Learnt,
   sp-below t,
   sp.Post,
-  ea-below t,
-  ea.Post,
+  e-below t,
+  e.Post,
   close-at-reads.Asked,
   close-at-reads.Learnt,
 ) (sc-at t) sc.Post
@@ -14588,8 +14588,8 @@ sc-returns-2 : (t : ℕ) → sc-lts.Need-returns-2 (
   flush-ws-reads.Learnt,
   sp-below t,
   sp.Post,
-  ea-below t,
-  ea.Post,
+  e-below t,
+  e.Post,
   close-at-reads.Asked,
   close-at-reads.Learnt,
 ) (sc-at t) sc.Post
@@ -14598,17 +14598,17 @@ sc-returns-2 t c =
     scoped (c .before .before .before .before .before .before .before .before .before .before .flush-ws .ensures) (c .before .before .before .before .before .before .if1 .left) (cut (c .before .before .before .before .sp .ensures .under _) (c .if2 .taken))
 
 -- src/lib.rt:1373:5
-sc-ea-requires : (t : ℕ) → sc-lts.Need-ea-requires (
+sc-e-requires : (t : ℕ) → sc-lts.Need-e-requires (
   flush-ws-reads.Asked,
   flush-ws-reads.Learnt,
   sp-below t,
   sp.Post,
-  ea-below t,
-  ea.Post,
+  e-below t,
+  e.Post,
   close-at-reads.Asked,
   close-at-reads.Learnt,
 ) (sc-at t) sc.Post
-sc-ea-requires t c κs =
+sc-e-requires t c κs =
     (omega (arith, c .before .before .before .before .before .before .before .before .before .before .before .before .before .before .before .before .pre .0, c .before .before .before .before .before .before .before .before .before .before .before .flush-ws .ensures .under 0 .left, c .before .before .before .before .before .sp .ensures .under 0 .left), c .before .before .before .before .before .sp .ensures .under 0 .ready (c .before .if2 .left))
 
 -- src/lib.rt:1375:9
@@ -14617,13 +14617,13 @@ sc-same-length-3 : (t : ℕ) → sc-lts.Need-same-length-3 (
   flush-ws-reads.Learnt,
   sp-below t,
   sp.Post,
-  ea-below t,
-  ea.Post,
+  e-below t,
+  e.Post,
   close-at-reads.Asked,
   close-at-reads.Learnt,
 ) (sc-at t) sc.Post
 sc-same-length-3 t c =
-    c .before .before .before .before .ea .ensures .under 0 .len ∙ (c .before .before .before .before .before .before .before .before .before .before .sp .ensures .under 0 .len ∙ (c .before .before .before .before .before .before .before .before .before .before .before .before .before .before .before .before .flush-ws .ensures .under 0 .len))
+    c .before .before .before .before .e .ensures .under 0 .len ∙ (c .before .before .before .before .before .before .before .before .before .before .sp .ensures .under 0 .len ∙ (c .before .before .before .before .before .before .before .before .before .before .before .before .before .before .before .before .flush-ws .ensures .under 0 .len))
 
 -- src/lib.rt:1375:9
 sc-returns-3 : (t : ℕ) → sc-lts.Need-returns-3 (
@@ -14631,14 +14631,14 @@ sc-returns-3 : (t : ℕ) → sc-lts.Need-returns-3 (
   flush-ws-reads.Learnt,
   sp-below t,
   sp.Post,
-  ea-below t,
-  ea.Post,
+  e-below t,
+  e.Post,
   close-at-reads.Asked,
   close-at-reads.Learnt,
 ) (sc-at t) sc.Post
 unfolding select-case
 sc-returns-3 t c =
-    scoped (c .before .before .before .before .before .before .before .before .before .before .before .before .before .before .before .before .flush-ws .ensures) (c .before .before .before .before .before .before .before .before .before .before .before .before .if1 .left) (both (c .before .before .before .before .before .before .before .before .before .before .sp .ensures .under _) (c .before .before .before .before .before .before .if2 .left) (cut (c .before .before .before .before .ea .ensures .under _) (c .if3 .taken)))
+    scoped (c .before .before .before .before .before .before .before .before .before .before .before .before .before .before .before .before .flush-ws .ensures) (c .before .before .before .before .before .before .before .before .before .before .before .before .if1 .left) (both (c .before .before .before .before .before .before .before .before .before .before .sp .ensures .under _) (c .before .before .before .before .before .before .if2 .left) (cut (c .before .before .before .before .e .ensures .under _) (c .if3 .taken)))
 
 -- src/lib.rt:1377:5
 sc-close-at-requires : (t : ℕ) → sc-lts.Need-close-at-requires (
@@ -14646,13 +14646,13 @@ sc-close-at-requires : (t : ℕ) → sc-lts.Need-close-at-requires (
   flush-ws-reads.Learnt,
   sp-below t,
   sp.Post,
-  ea-below t,
-  ea.Post,
+  e-below t,
+  e.Post,
   close-at-reads.Asked,
   close-at-reads.Learnt,
 ) (sc-at t) sc.Post
 sc-close-at-requires t c κs =
-    (step-marked (c .before .before .before .before .before .ea .ensures .under _) (c .before .if3 .left) (step-marked (c .before .before .before .before .before .before .before .before .before .before .before .sp .ensures .under _) (c .before .before .before .before .before .before .before .if2 .left) (marked-now)), c .before .before .before .before .before .ea .ensures .under 0 .ready (c .before .if3 .left))
+    (step-marked (c .before .before .before .before .before .e .ensures .under _) (c .before .if3 .left) (step-marked (c .before .before .before .before .before .before .before .before .before .before .before .sp .ensures .under _) (c .before .before .before .before .before .before .before .if2 .left) (marked-now)), c .before .before .before .before .before .e .ensures .under 0 .ready (c .before .if3 .left))
 
 -- src/lib.rt:1360:1
 sc-same-length-4 : (t : ℕ) → sc-lts.Need-same-length-4 (
@@ -14660,13 +14660,13 @@ sc-same-length-4 : (t : ℕ) → sc-lts.Need-same-length-4 (
   flush-ws-reads.Learnt,
   sp-below t,
   sp.Post,
-  ea-below t,
-  ea.Post,
+  e-below t,
+  e.Post,
   close-at-reads.Asked,
   close-at-reads.Learnt,
 ) (sc-at t) sc.Post
 sc-same-length-4 t c =
-    c .before .before .close-at .ensures .len ∙ (c .before .before .before .before .before .before .before .before .ea .ensures .under 0 .len ∙ (c .before .before .before .before .before .before .before .before .before .before .before .before .before .before .sp .ensures .under 0 .len ∙ (c .before .before .before .before .before .before .before .before .before .before .before .before .before .before .before .before .before .before .before .before .flush-ws .ensures .under 0 .len)))
+    c .before .before .close-at .ensures .len ∙ (c .before .before .before .before .before .before .before .before .e .ensures .under 0 .len ∙ (c .before .before .before .before .before .before .before .before .before .before .before .before .before .before .sp .ensures .under 0 .len ∙ (c .before .before .before .before .before .before .before .before .before .before .before .before .before .before .before .before .before .before .before .before .flush-ws .ensures .under 0 .len)))
 
 -- src/lib.rt:1360:1
 sc-returns-4 : (t : ℕ) → sc-lts.Need-returns-4 (
@@ -14674,14 +14674,14 @@ sc-returns-4 : (t : ℕ) → sc-lts.Need-returns-4 (
   flush-ws-reads.Learnt,
   sp-below t,
   sp.Post,
-  ea-below t,
-  ea.Post,
+  e-below t,
+  e.Post,
   close-at-reads.Asked,
   close-at-reads.Learnt,
 ) (sc-at t) sc.Post
 unfolding select-case
 sc-returns-4 t c =
-    scoped (c .before .before .before .before .before .before .before .before .before .before .before .before .before .before .before .before .before .before .before .before .flush-ws .ensures) (c .before .before .before .before .before .before .before .before .before .before .before .before .before .before .before .before .if1 .left) (both (c .before .before .before .before .before .before .before .before .before .before .before .before .before .before .sp .ensures .under _) (c .before .before .before .before .before .before .before .before .before .before .if2 .left) (both (c .before .before .before .before .before .before .before .before .ea .ensures .under _) (c .before .before .before .before .if3 .left) (c .before .before .close-at .ensures)))
+    scoped (c .before .before .before .before .before .before .before .before .before .before .before .before .before .before .before .before .before .before .before .before .flush-ws .ensures) (c .before .before .before .before .before .before .before .before .before .before .before .before .before .before .before .before .if1 .left) (both (c .before .before .before .before .before .before .before .before .before .before .before .before .before .before .sp .ensures .under _) (c .before .before .before .before .before .before .before .before .before .before .if2 .left) (both (c .before .before .before .before .before .before .before .before .e .ensures .under _) (c .before .before .before .before .if3 .left) (c .before .before .close-at .ensures)))
 
 -- src/lib.rt:1324:9
 se-bump-requires : (t : ℕ) → se-lts.Need-bump-requires (
@@ -15042,9 +15042,9 @@ si-returns-3 t c =
     scoped (c .before .before .before .before .before .before .before .before .before .before .before .before .before .before .before .before .flush-ws .ensures) (c .before .before .before .before .before .before .before .before .before .before .before .before .if1 .left) (both (c .before .before .before .before .before .before .before .before .before .before .modifiers .ensures .under _) (c .before .before .before .before .before .before .if2 .left) (look (c .before .before .before .before .peek .ensures) (c .before .before .sk .ensures)))
 
 -- src/lib.rt:1764:13
-sk-lc-requires : (t : ℕ) → sk-lts.Need-lc-requires (
-  lc-below t,
-  lc.Post,
+sk-l-requires : (t : ℕ) → sk-lts.Need-l-requires (
+  l-below t,
+  l.Post,
   item-use-reads.Asked,
   item-use-reads.Learnt,
   item-end-reads.Asked,
@@ -15053,16 +15053,16 @@ sk-lc-requires : (t : ℕ) → sk-lts.Need-lc-requires (
   item-struct-reads.Learnt,
   item-enum-reads.Asked,
   item-enum-reads.Learnt,
-  s2-below t,
-  s2.Post,
+  s-below t,
+  s.Post,
 ) (sk-at t) sk.Post
-sk-lc-requires t c κs =
+sk-l-requires t c κs =
     (omega (arith, c .before .before .before .before .before .pre .0), c .before .before .before .before .before .pre .1 .1)
 
 -- src/lib.rt:1766:13
 sk-same-length : (t : ℕ) → sk-lts.Need-same-length (
-  lc-below t,
-  lc.Post,
+  l-below t,
+  l.Post,
   item-use-reads.Asked,
   item-use-reads.Learnt,
   item-end-reads.Asked,
@@ -15071,16 +15071,16 @@ sk-same-length : (t : ℕ) → sk-lts.Need-same-length (
   item-struct-reads.Learnt,
   item-enum-reads.Asked,
   item-enum-reads.Learnt,
-  s2-below t,
-  s2.Post,
+  s-below t,
+  s.Post,
 ) (sk-at t) sk.Post
 sk-same-length t c =
-    c .before .before .before .before .lc .ensures .under 0 .len
+    c .before .before .before .before .l .ensures .under 0 .len
 
 -- src/lib.rt:1766:13
 sk-returns : (t : ℕ) → sk-lts.Need-returns (
-  lc-below t,
-  lc.Post,
+  l-below t,
+  l.Post,
   item-use-reads.Asked,
   item-use-reads.Learnt,
   item-end-reads.Asked,
@@ -15089,17 +15089,17 @@ sk-returns : (t : ℕ) → sk-lts.Need-returns (
   item-struct-reads.Learnt,
   item-enum-reads.Asked,
   item-enum-reads.Learnt,
-  s2-below t,
-  s2.Post,
+  s-below t,
+  s.Post,
 ) (sk-at t) sk.Post
 unfolding stmt-kind
 sk-returns t c =
-    if-yes (eq-eqb _ _ (c .before .before .before .before .before .before .if1 .taken)) (cut (c .before .before .before .before .lc .ensures .under _) (c .if2 .taken))
+    if-yes (eq-eqb _ _ (c .before .before .before .before .before .before .if1 .taken)) (cut (c .before .before .before .before .l .ensures .under _) (c .if2 .taken))
 
 -- src/lib.rt:1769:9
 sk-same-length-2 : (t : ℕ) → sk-lts.Need-same-length-2 (
-  lc-below t,
-  lc.Post,
+  l-below t,
+  l.Post,
   item-use-reads.Asked,
   item-use-reads.Learnt,
   item-end-reads.Asked,
@@ -15108,16 +15108,16 @@ sk-same-length-2 : (t : ℕ) → sk-lts.Need-same-length-2 (
   item-struct-reads.Learnt,
   item-enum-reads.Asked,
   item-enum-reads.Learnt,
-  s2-below t,
-  s2.Post,
+  s-below t,
+  s.Post,
 ) (sk-at t) sk.Post
 sk-same-length-2 t c =
-    c .before .before .before .before .lc .ensures .under 0 .len
+    c .before .before .before .before .l .ensures .under 0 .len
 
 -- src/lib.rt:1769:9
 sk-returns-2 : (t : ℕ) → sk-lts.Need-returns-2 (
-  lc-below t,
-  lc.Post,
+  l-below t,
+  l.Post,
   item-use-reads.Asked,
   item-use-reads.Learnt,
   item-end-reads.Asked,
@@ -15126,17 +15126,17 @@ sk-returns-2 : (t : ℕ) → sk-lts.Need-returns-2 (
   item-struct-reads.Learnt,
   item-enum-reads.Asked,
   item-enum-reads.Learnt,
-  s2-below t,
-  s2.Post,
+  s-below t,
+  s.Post,
 ) (sk-at t) sk.Post
 unfolding stmt-kind
 sk-returns-2 t c =
-    if-yes (eq-eqb _ _ (c .before .before .before .before .before .before .if1 .taken)) (both (c .before .before .before .before .lc .ensures .under _) (c .if2 .left) (answered (c .before .before .before .before .lc .ensures .under 0 .ready (c .if2 .left))))
+    if-yes (eq-eqb _ _ (c .before .before .before .before .before .before .if1 .taken)) (both (c .before .before .before .before .l .ensures .under _) (c .if2 .left) (answered (c .before .before .before .before .l .ensures .under 0 .ready (c .if2 .left))))
 
 -- src/lib.rt:1772:13
 sk-item-use-requires : (t : ℕ) → sk-lts.Need-item-use-requires (
-  lc-below t,
-  lc.Post,
+  l-below t,
+  l.Post,
   item-use-reads.Asked,
   item-use-reads.Learnt,
   item-end-reads.Asked,
@@ -15145,16 +15145,16 @@ sk-item-use-requires : (t : ℕ) → sk-lts.Need-item-use-requires (
   item-struct-reads.Learnt,
   item-enum-reads.Asked,
   item-enum-reads.Learnt,
-  s2-below t,
-  s2.Post,
+  s-below t,
+  s.Post,
 ) (sk-at t) sk.Post
 sk-item-use-requires t c κs =
     c .before .before .before .before .before .before .pre .1 .1
 
 -- src/lib.rt:1774:13
 sk-same-length-3 : (t : ℕ) → sk-lts.Need-same-length-3 (
-  lc-below t,
-  lc.Post,
+  l-below t,
+  l.Post,
   item-use-reads.Asked,
   item-use-reads.Learnt,
   item-end-reads.Asked,
@@ -15163,16 +15163,16 @@ sk-same-length-3 : (t : ℕ) → sk-lts.Need-same-length-3 (
   item-struct-reads.Learnt,
   item-enum-reads.Asked,
   item-enum-reads.Learnt,
-  s2-below t,
-  s2.Post,
+  s-below t,
+  s.Post,
 ) (sk-at t) sk.Post
 sk-same-length-3 t c =
     c .before .before .before .before .item-use .ensures .under 0 .len
 
 -- src/lib.rt:1774:13
 sk-returns-3 : (t : ℕ) → sk-lts.Need-returns-3 (
-  lc-below t,
-  lc.Post,
+  l-below t,
+  l.Post,
   item-use-reads.Asked,
   item-use-reads.Learnt,
   item-end-reads.Asked,
@@ -15181,8 +15181,8 @@ sk-returns-3 : (t : ℕ) → sk-lts.Need-returns-3 (
   item-struct-reads.Learnt,
   item-enum-reads.Asked,
   item-enum-reads.Learnt,
-  s2-below t,
-  s2.Post,
+  s-below t,
+  s.Post,
 ) (sk-at t) sk.Post
 unfolding stmt-kind
 sk-returns-3 t c =
@@ -15190,8 +15190,8 @@ sk-returns-3 t c =
 
 -- src/lib.rt:1776:9
 sk-item-end-requires : (t : ℕ) → sk-lts.Need-item-end-requires (
-  lc-below t,
-  lc.Post,
+  l-below t,
+  l.Post,
   item-use-reads.Asked,
   item-use-reads.Learnt,
   item-end-reads.Asked,
@@ -15200,16 +15200,16 @@ sk-item-end-requires : (t : ℕ) → sk-lts.Need-item-end-requires (
   item-struct-reads.Learnt,
   item-enum-reads.Asked,
   item-enum-reads.Learnt,
-  s2-below t,
-  s2.Post,
+  s-below t,
+  s.Post,
 ) (sk-at t) sk.Post
 sk-item-end-requires t c κs =
     (step-marked (c .before .before .before .before .before .item-use .ensures .under _) (c .before .if4 .left) (c .before .before .before .before .before .before .before .before .before .before .before .before .pre .1 .0), c .before .before .before .before .before .item-use .ensures .under 0 .ready (c .before .if4 .left))
 
 -- src/lib.rt:1776:9
 sk-same-length-4 : (t : ℕ) → sk-lts.Need-same-length-4 (
-  lc-below t,
-  lc.Post,
+  l-below t,
+  l.Post,
   item-use-reads.Asked,
   item-use-reads.Learnt,
   item-end-reads.Asked,
@@ -15218,16 +15218,16 @@ sk-same-length-4 : (t : ℕ) → sk-lts.Need-same-length-4 (
   item-struct-reads.Learnt,
   item-enum-reads.Asked,
   item-enum-reads.Learnt,
-  s2-below t,
-  s2.Post,
+  s-below t,
+  s.Post,
 ) (sk-at t) sk.Post
 sk-same-length-4 t c =
     c .before .before .item-end .ensures .len ∙ (c .before .before .before .before .before .before .before .before .item-use .ensures .under 0 .len)
 
 -- src/lib.rt:1776:9
 sk-returns-4 : (t : ℕ) → sk-lts.Need-returns-4 (
-  lc-below t,
-  lc.Post,
+  l-below t,
+  l.Post,
   item-use-reads.Asked,
   item-use-reads.Learnt,
   item-end-reads.Asked,
@@ -15236,8 +15236,8 @@ sk-returns-4 : (t : ℕ) → sk-lts.Need-returns-4 (
   item-struct-reads.Learnt,
   item-enum-reads.Asked,
   item-enum-reads.Learnt,
-  s2-below t,
-  s2.Post,
+  s-below t,
+  s.Post,
 ) (sk-at t) sk.Post
 unfolding stmt-kind
 sk-returns-4 t c =
@@ -15245,8 +15245,8 @@ sk-returns-4 t c =
 
 -- src/lib.rt:1779:13
 sk-item-struct-requires : (t : ℕ) → sk-lts.Need-item-struct-requires (
-  lc-below t,
-  lc.Post,
+  l-below t,
+  l.Post,
   item-use-reads.Asked,
   item-use-reads.Learnt,
   item-end-reads.Asked,
@@ -15255,16 +15255,16 @@ sk-item-struct-requires : (t : ℕ) → sk-lts.Need-item-struct-requires (
   item-struct-reads.Learnt,
   item-enum-reads.Asked,
   item-enum-reads.Learnt,
-  s2-below t,
-  s2.Post,
+  s-below t,
+  s.Post,
 ) (sk-at t) sk.Post
 sk-item-struct-requires t c κs =
     c .before .before .before .before .before .before .before .pre .1 .1
 
 -- src/lib.rt:1781:13
 sk-same-length-5 : (t : ℕ) → sk-lts.Need-same-length-5 (
-  lc-below t,
-  lc.Post,
+  l-below t,
+  l.Post,
   item-use-reads.Asked,
   item-use-reads.Learnt,
   item-end-reads.Asked,
@@ -15273,16 +15273,16 @@ sk-same-length-5 : (t : ℕ) → sk-lts.Need-same-length-5 (
   item-struct-reads.Learnt,
   item-enum-reads.Asked,
   item-enum-reads.Learnt,
-  s2-below t,
-  s2.Post,
+  s-below t,
+  s.Post,
 ) (sk-at t) sk.Post
 sk-same-length-5 t c =
     c .before .before .before .before .item-struct .ensures .under 0 .len
 
 -- src/lib.rt:1781:13
 sk-returns-5 : (t : ℕ) → sk-lts.Need-returns-5 (
-  lc-below t,
-  lc.Post,
+  l-below t,
+  l.Post,
   item-use-reads.Asked,
   item-use-reads.Learnt,
   item-end-reads.Asked,
@@ -15291,8 +15291,8 @@ sk-returns-5 : (t : ℕ) → sk-lts.Need-returns-5 (
   item-struct-reads.Learnt,
   item-enum-reads.Asked,
   item-enum-reads.Learnt,
-  s2-below t,
-  s2.Post,
+  s-below t,
+  s.Post,
 ) (sk-at t) sk.Post
 unfolding stmt-kind
 sk-returns-5 t c =
@@ -15300,8 +15300,8 @@ sk-returns-5 t c =
 
 -- src/lib.rt:1783:9
 sk-item-end-requires-2 : (t : ℕ) → sk-lts.Need-item-end-requires-2 (
-  lc-below t,
-  lc.Post,
+  l-below t,
+  l.Post,
   item-use-reads.Asked,
   item-use-reads.Learnt,
   item-end-reads.Asked,
@@ -15310,16 +15310,16 @@ sk-item-end-requires-2 : (t : ℕ) → sk-lts.Need-item-end-requires-2 (
   item-struct-reads.Learnt,
   item-enum-reads.Asked,
   item-enum-reads.Learnt,
-  s2-below t,
-  s2.Post,
+  s-below t,
+  s.Post,
 ) (sk-at t) sk.Post
 sk-item-end-requires-2 t c κs =
     (step-marked (c .before .before .before .before .before .item-struct .ensures .under _) (c .before .if6 .left) (c .before .before .before .before .before .before .before .before .before .before .before .before .before .pre .1 .0), c .before .before .before .before .before .item-struct .ensures .under 0 .ready (c .before .if6 .left))
 
 -- src/lib.rt:1783:9
 sk-same-length-6 : (t : ℕ) → sk-lts.Need-same-length-6 (
-  lc-below t,
-  lc.Post,
+  l-below t,
+  l.Post,
   item-use-reads.Asked,
   item-use-reads.Learnt,
   item-end-reads.Asked,
@@ -15328,16 +15328,16 @@ sk-same-length-6 : (t : ℕ) → sk-lts.Need-same-length-6 (
   item-struct-reads.Learnt,
   item-enum-reads.Asked,
   item-enum-reads.Learnt,
-  s2-below t,
-  s2.Post,
+  s-below t,
+  s.Post,
 ) (sk-at t) sk.Post
 sk-same-length-6 t c =
     c .before .before .item-end2 .ensures .len ∙ (c .before .before .before .before .before .before .before .before .item-struct .ensures .under 0 .len)
 
 -- src/lib.rt:1783:9
 sk-returns-6 : (t : ℕ) → sk-lts.Need-returns-6 (
-  lc-below t,
-  lc.Post,
+  l-below t,
+  l.Post,
   item-use-reads.Asked,
   item-use-reads.Learnt,
   item-end-reads.Asked,
@@ -15346,8 +15346,8 @@ sk-returns-6 : (t : ℕ) → sk-lts.Need-returns-6 (
   item-struct-reads.Learnt,
   item-enum-reads.Asked,
   item-enum-reads.Learnt,
-  s2-below t,
-  s2.Post,
+  s-below t,
+  s.Post,
 ) (sk-at t) sk.Post
 unfolding stmt-kind
 sk-returns-6 t c =
@@ -15355,8 +15355,8 @@ sk-returns-6 t c =
 
 -- src/lib.rt:1786:13
 sk-item-enum-requires : (t : ℕ) → sk-lts.Need-item-enum-requires (
-  lc-below t,
-  lc.Post,
+  l-below t,
+  l.Post,
   item-use-reads.Asked,
   item-use-reads.Learnt,
   item-end-reads.Asked,
@@ -15365,16 +15365,16 @@ sk-item-enum-requires : (t : ℕ) → sk-lts.Need-item-enum-requires (
   item-struct-reads.Learnt,
   item-enum-reads.Asked,
   item-enum-reads.Learnt,
-  s2-below t,
-  s2.Post,
+  s-below t,
+  s.Post,
 ) (sk-at t) sk.Post
 sk-item-enum-requires t c κs =
     c .before .before .before .before .before .before .before .before .pre .1 .1
 
 -- src/lib.rt:1788:13
 sk-same-length-7 : (t : ℕ) → sk-lts.Need-same-length-7 (
-  lc-below t,
-  lc.Post,
+  l-below t,
+  l.Post,
   item-use-reads.Asked,
   item-use-reads.Learnt,
   item-end-reads.Asked,
@@ -15383,16 +15383,16 @@ sk-same-length-7 : (t : ℕ) → sk-lts.Need-same-length-7 (
   item-struct-reads.Learnt,
   item-enum-reads.Asked,
   item-enum-reads.Learnt,
-  s2-below t,
-  s2.Post,
+  s-below t,
+  s.Post,
 ) (sk-at t) sk.Post
 sk-same-length-7 t c =
     c .before .before .before .before .item-enum .ensures .under 0 .len
 
 -- src/lib.rt:1788:13
 sk-returns-7 : (t : ℕ) → sk-lts.Need-returns-7 (
-  lc-below t,
-  lc.Post,
+  l-below t,
+  l.Post,
   item-use-reads.Asked,
   item-use-reads.Learnt,
   item-end-reads.Asked,
@@ -15401,8 +15401,8 @@ sk-returns-7 : (t : ℕ) → sk-lts.Need-returns-7 (
   item-struct-reads.Learnt,
   item-enum-reads.Asked,
   item-enum-reads.Learnt,
-  s2-below t,
-  s2.Post,
+  s-below t,
+  s.Post,
 ) (sk-at t) sk.Post
 unfolding stmt-kind
 sk-returns-7 t c =
@@ -15410,8 +15410,8 @@ sk-returns-7 t c =
 
 -- src/lib.rt:1790:9
 sk-item-end-requires-3 : (t : ℕ) → sk-lts.Need-item-end-requires-3 (
-  lc-below t,
-  lc.Post,
+  l-below t,
+  l.Post,
   item-use-reads.Asked,
   item-use-reads.Learnt,
   item-end-reads.Asked,
@@ -15420,16 +15420,16 @@ sk-item-end-requires-3 : (t : ℕ) → sk-lts.Need-item-end-requires-3 (
   item-struct-reads.Learnt,
   item-enum-reads.Asked,
   item-enum-reads.Learnt,
-  s2-below t,
-  s2.Post,
+  s-below t,
+  s.Post,
 ) (sk-at t) sk.Post
 sk-item-end-requires-3 t c κs =
     (step-marked (c .before .before .before .before .before .item-enum .ensures .under _) (c .before .if8 .left) (c .before .before .before .before .before .before .before .before .before .before .before .before .before .before .pre .1 .0), c .before .before .before .before .before .item-enum .ensures .under 0 .ready (c .before .if8 .left))
 
 -- src/lib.rt:1790:9
 sk-same-length-8 : (t : ℕ) → sk-lts.Need-same-length-8 (
-  lc-below t,
-  lc.Post,
+  l-below t,
+  l.Post,
   item-use-reads.Asked,
   item-use-reads.Learnt,
   item-end-reads.Asked,
@@ -15438,16 +15438,16 @@ sk-same-length-8 : (t : ℕ) → sk-lts.Need-same-length-8 (
   item-struct-reads.Learnt,
   item-enum-reads.Asked,
   item-enum-reads.Learnt,
-  s2-below t,
-  s2.Post,
+  s-below t,
+  s.Post,
 ) (sk-at t) sk.Post
 sk-same-length-8 t c =
     c .before .before .item-end3 .ensures .len ∙ (c .before .before .before .before .before .before .before .before .item-enum .ensures .under 0 .len)
 
 -- src/lib.rt:1790:9
 sk-returns-8 : (t : ℕ) → sk-lts.Need-returns-8 (
-  lc-below t,
-  lc.Post,
+  l-below t,
+  l.Post,
   item-use-reads.Asked,
   item-use-reads.Learnt,
   item-end-reads.Asked,
@@ -15456,17 +15456,17 @@ sk-returns-8 : (t : ℕ) → sk-lts.Need-returns-8 (
   item-struct-reads.Learnt,
   item-enum-reads.Asked,
   item-enum-reads.Learnt,
-  s2-below t,
-  s2.Post,
+  s-below t,
+  s.Post,
 ) (sk-at t) sk.Post
 unfolding stmt-kind
 sk-returns-8 t c =
     if-no (ne-eqb _ _ (c .before .before .before .before .before .before .before .before .before .before .before .before .before .if1 .left)) (if-no (ne-eqb _ _ (c .before .before .before .before .before .before .before .before .before .before .before .before .if3 .left)) (if-no (ne-eqb _ _ (c .before .before .before .before .before .before .before .before .before .before .before .if5 .left)) (if-yes (eq-eqb _ _ (c .before .before .before .before .before .before .before .before .before .before .if7 .taken)) (both (c .before .before .before .before .before .before .before .before .item-enum .ensures .under _) (c .before .before .before .before .if8 .left) (c .before .before .item-end3 .ensures)))))
 
 -- src/lib.rt:1792:5
-sk-s2-requires : (t : ℕ) → sk-lts.Need-s2-requires (
-  lc-below t,
-  lc.Post,
+sk-s-requires : (t : ℕ) → sk-lts.Need-s-requires (
+  l-below t,
+  l.Post,
   item-use-reads.Asked,
   item-use-reads.Learnt,
   item-end-reads.Asked,
@@ -15475,16 +15475,16 @@ sk-s2-requires : (t : ℕ) → sk-lts.Need-s2-requires (
   item-struct-reads.Learnt,
   item-enum-reads.Asked,
   item-enum-reads.Learnt,
-  s2-below t,
-  s2.Post,
+  s-below t,
+  s.Post,
 ) (sk-at t) sk.Post
-sk-s2-requires t c κs =
+sk-s-requires t c κs =
     (omega (arith, c .before .before .before .before .before .before .before .before .pre .0), (c .before .before .before .before .before .before .before .before .pre .1 .0, c .before .before .before .before .before .before .before .before .pre .1 .1))
 
 -- src/lib.rt:1751:1
 sk-same-length-9 : (t : ℕ) → sk-lts.Need-same-length-9 (
-  lc-below t,
-  lc.Post,
+  l-below t,
+  l.Post,
   item-use-reads.Asked,
   item-use-reads.Learnt,
   item-end-reads.Asked,
@@ -15493,16 +15493,16 @@ sk-same-length-9 : (t : ℕ) → sk-lts.Need-same-length-9 (
   item-struct-reads.Learnt,
   item-enum-reads.Asked,
   item-enum-reads.Learnt,
-  s2-below t,
-  s2.Post,
+  s-below t,
+  s.Post,
 ) (sk-at t) sk.Post
 sk-same-length-9 t c =
-    c .before .before .s2 .ensures .len
+    c .before .before .s .ensures .len
 
 -- src/lib.rt:1751:1
 sk-returns-9 : (t : ℕ) → sk-lts.Need-returns-9 (
-  lc-below t,
-  lc.Post,
+  l-below t,
+  l.Post,
   item-use-reads.Asked,
   item-use-reads.Learnt,
   item-end-reads.Asked,
@@ -15511,12 +15511,12 @@ sk-returns-9 : (t : ℕ) → sk-lts.Need-returns-9 (
   item-struct-reads.Learnt,
   item-enum-reads.Asked,
   item-enum-reads.Learnt,
-  s2-below t,
-  s2.Post,
+  s-below t,
+  s.Post,
 ) (sk-at t) sk.Post
 unfolding stmt-kind
 sk-returns-9 t c =
-    if-no (ne-eqb _ _ (c .before .before .before .before .before .before .before .if1 .left)) (if-no (ne-eqb _ _ (c .before .before .before .before .before .before .if3 .left)) (if-no (ne-eqb _ _ (c .before .before .before .before .before .if5 .left)) (if-no (ne-eqb _ _ (c .before .before .before .before .if7 .left)) (c .before .before .s2 .ensures))))
+    if-no (ne-eqb _ _ (c .before .before .before .before .before .before .before .if1 .left)) (if-no (ne-eqb _ _ (c .before .before .before .before .before .before .if3 .left)) (if-no (ne-eqb _ _ (c .before .before .before .before .before .if5 .left)) (if-no (ne-eqb _ _ (c .before .before .before .before .if7 .left)) (c .before .before .s .ensures))))
 
 abbrev sl-Inv-loop : sl-lts.InvT-loop
 sl-Inv-loop kinds lens table₀ t₀ table t =
@@ -15935,8 +15935,8 @@ sp-peek-requires : (t : ℕ) → sp-lts.Need-peek-requires (
   bump-reads.Learnt,
   pat-reads.Asked,
   pat-reads.Learnt,
-  ea-below t,
-  ea.Post,
+  e-below t,
+  e.Post,
 ) (sp-at t) sp.Post
 sp-peek-requires t c κs =
     (c .before .before .before .pre .1) .looks
@@ -15949,8 +15949,8 @@ sp-bump-requires : (t : ℕ) → sp-lts.Need-bump-requires (
   bump-reads.Learnt,
   pat-reads.Asked,
   pat-reads.Learnt,
-  ea-below t,
-  ea.Post,
+  e-below t,
+  e.Post,
 ) (sp-at t) sp.Post
 sp-bump-requires t c κs =
     c .before .before .before .before .before .before .pre .1
@@ -15963,8 +15963,8 @@ sp-same-length : (t : ℕ) → sp-lts.Need-same-length (
   bump-reads.Learnt,
   pat-reads.Asked,
   pat-reads.Learnt,
-  ea-below t,
-  ea.Post,
+  e-below t,
+  e.Post,
 ) (sp-at t) sp.Post
 sp-same-length t c =
     c .before .before .bump .ensures .under 0 .len
@@ -15977,8 +15977,8 @@ sp-returns : (t : ℕ) → sp-lts.Need-returns (
   bump-reads.Learnt,
   pat-reads.Asked,
   pat-reads.Learnt,
-  ea-below t,
-  ea.Post,
+  e-below t,
+  e.Post,
 ) (sp-at t) sp.Post
 unfolding select-pat
 sp-returns t c =
@@ -15992,8 +15992,8 @@ sp-pat-requires : (t : ℕ) → sp-lts.Need-pat-requires (
   bump-reads.Learnt,
   pat-reads.Asked,
   pat-reads.Learnt,
-  ea-below t,
-  ea.Post,
+  e-below t,
+  e.Post,
 ) (sp-at t) sp.Post
 sp-pat-requires t c κs =
     c .before .before .before .before .before .before .pre .1
@@ -16006,8 +16006,8 @@ sp-same-length-2 : (t : ℕ) → sp-lts.Need-same-length-2 (
   bump-reads.Learnt,
   pat-reads.Asked,
   pat-reads.Learnt,
-  ea-below t,
-  ea.Post,
+  e-below t,
+  e.Post,
 ) (sp-at t) sp.Post
 sp-same-length-2 t c =
     c .before .before .before .before .pat .ensures .under 0 .len
@@ -16020,25 +16020,25 @@ sp-returns-2 : (t : ℕ) → sp-lts.Need-returns-2 (
   bump-reads.Learnt,
   pat-reads.Asked,
   pat-reads.Learnt,
-  ea-below t,
-  ea.Post,
+  e-below t,
+  e.Post,
 ) (sp-at t) sp.Post
 unfolding select-pat
 sp-returns-2 t c =
     record { under = λ m. ask (c .before .before .before .before .before .before .before .peek .ensures) (if-no (ne-eqb _ _ (c .before .before .before .before .before .before .if1 .left)) (cut (c .before .before .before .before .pat .ensures .under _) (c .if2 .taken))) }
 
 -- src/lib.rt:1391:5
-sp-ea-requires : (t : ℕ) → sp-lts.Need-ea-requires (
+sp-e-requires : (t : ℕ) → sp-lts.Need-e-requires (
   peek-reads.Asked,
   peek-reads.Learnt,
   bump-reads.Asked,
   bump-reads.Learnt,
   pat-reads.Asked,
   pat-reads.Learnt,
-  ea-below t,
-  ea.Post,
+  e-below t,
+  e.Post,
 ) (sp-at t) sp.Post
-sp-ea-requires t c κs =
+sp-e-requires t c κs =
     (omega (arith, c .before .before .before .before .before .before .before .before .before .before .before .before .pre .0, c .before .before .before .before .before .pat .ensures .under 0 .left), c .before .before .before .before .before .pat .ensures .under 0 .ready (c .before .if2 .left))
 
 -- src/lib.rt:1380:1
@@ -16049,11 +16049,11 @@ sp-same-length-3 : (t : ℕ) → sp-lts.Need-same-length-3 (
   bump-reads.Learnt,
   pat-reads.Asked,
   pat-reads.Learnt,
-  ea-below t,
-  ea.Post,
+  e-below t,
+  e.Post,
 ) (sp-at t) sp.Post
 sp-same-length-3 t c =
-    c .before .before .ea .ensures .under 0 .len ∙ (c .before .before .before .before .before .before .before .before .pat .ensures .under 0 .len)
+    c .before .before .e .ensures .under 0 .len ∙ (c .before .before .before .before .before .before .before .before .pat .ensures .under 0 .len)
 
 -- src/lib.rt:1380:1
 sp-returns-3 : (t : ℕ) → sp-lts.Need-returns-3 (
@@ -16063,12 +16063,12 @@ sp-returns-3 : (t : ℕ) → sp-lts.Need-returns-3 (
   bump-reads.Learnt,
   pat-reads.Asked,
   pat-reads.Learnt,
-  ea-below t,
-  ea.Post,
+  e-below t,
+  e.Post,
 ) (sp-at t) sp.Post
 unfolding select-pat
 sp-returns-3 t c =
-    record { under = λ m. ask (c .before .before .before .before .before .before .before .before .before .before .before .peek .ensures) (if-no (ne-eqb _ _ (c .before .before .before .before .before .before .before .before .before .before .if1 .left)) (both (c .before .before .before .before .before .before .before .before .pat .ensures .under _) (c .before .before .before .before .if2 .left) (c .before .before .ea .ensures .under _))) }
+    record { under = λ m. ask (c .before .before .before .before .before .before .before .before .before .before .before .peek .ensures) (if-no (ne-eqb _ _ (c .before .before .before .before .before .before .before .before .before .before .if1 .left)) (both (c .before .before .before .before .before .before .before .before .pat .ensures .under _) (c .before .before .before .before .if2 .left) (c .before .before .e .ensures .under _))) }
 
 -- src/lib.rt:1679:9
 st-refuse-requires : (t : ℕ) → st-lts.Need-refuse-requires (
@@ -16136,8 +16136,8 @@ st-returns-2 t c =
 tg-bump-requires : (t : ℕ) → tg-lts.Need-bump-requires (
   bump-reads.Asked,
   bump-reads.Learnt,
-  tl-below t,
-  tl.Post,
+  u-below t,
+  u.Post,
   bump-if-reads.Asked,
   bump-if-reads.Learnt,
 ) (tg-at t) tg.Post
@@ -16148,8 +16148,8 @@ tg-bump-requires t c κs =
 tg-same-length : (t : ℕ) → tg-lts.Need-same-length (
   bump-reads.Asked,
   bump-reads.Learnt,
-  tl-below t,
-  tl.Post,
+  u-below t,
+  u.Post,
   bump-if-reads.Asked,
   bump-if-reads.Learnt,
 ) (tg-at t) tg.Post
@@ -16160,8 +16160,8 @@ tg-same-length t c =
 tg-returns : (t : ℕ) → tg-lts.Need-returns (
   bump-reads.Asked,
   bump-reads.Learnt,
-  tl-below t,
-  tl.Post,
+  u-below t,
+  u.Post,
   bump-if-reads.Asked,
   bump-if-reads.Learnt,
 ) (tg-at t) tg.Post
@@ -16170,139 +16170,139 @@ tg-returns t c =
     record { under = λ m. cut (c .before .before .before .before .bump .ensures .under _) (c .if1 .taken) }
 
 -- src/lib.rt:971:5
-tg-tl-requires : (t : ℕ) → tg-lts.Need-tl-requires (
+tg-u-requires : (t : ℕ) → tg-lts.Need-u-requires (
   bump-reads.Asked,
   bump-reads.Learnt,
-  tl-below t,
-  tl.Post,
+  u-below t,
+  u.Post,
   bump-if-reads.Asked,
   bump-if-reads.Learnt,
 ) (tg-at t) tg.Post
-tg-tl-requires t c κs =
+tg-u-requires t c κs =
     (omega (arith, c .before .before .before .before .before .before .before .before .before .before .pre .0, c .before .before .before .before .before .bump .ensures .under 0 .left), c .before .before .before .before .before .bump .ensures .under 0 .ready (c .before .if1 .left))
 
 -- src/lib.rt:973:9
 tg-same-length-2 : (t : ℕ) → tg-lts.Need-same-length-2 (
   bump-reads.Asked,
   bump-reads.Learnt,
-  tl-below t,
-  tl.Post,
+  u-below t,
+  u.Post,
   bump-if-reads.Asked,
   bump-if-reads.Learnt,
 ) (tg-at t) tg.Post
 tg-same-length-2 t c =
-    c .before .before .before .before .tl .ensures .under 0 .len ∙ (c .before .before .before .before .before .before .before .before .before .before .bump .ensures .under 0 .len)
+    c .before .before .before .before .u .ensures .under 0 .len ∙ (c .before .before .before .before .before .before .before .before .before .before .bump .ensures .under 0 .len)
 
 -- src/lib.rt:973:9
 tg-returns-2 : (t : ℕ) → tg-lts.Need-returns-2 (
   bump-reads.Asked,
   bump-reads.Learnt,
-  tl-below t,
-  tl.Post,
+  u-below t,
+  u.Post,
   bump-if-reads.Asked,
   bump-if-reads.Learnt,
 ) (tg-at t) tg.Post
 unfolding expr-tuple-or-group
 tg-returns-2 t c =
-    record { under = λ m. both (c .before .before .before .before .before .before .before .before .before .before .bump .ensures .under _) (c .before .before .before .before .before .before .if1 .left) (cut (c .before .before .before .before .tl .ensures .under _) (c .if2 .taken)) }
+    record { under = λ m. both (c .before .before .before .before .before .before .before .before .before .before .bump .ensures .under _) (c .before .before .before .before .before .before .if1 .left) (cut (c .before .before .before .before .u .ensures .under _) (c .if2 .taken)) }
 
 -- src/lib.rt:976:5
 tg-bump-if-requires : (t : ℕ) → tg-lts.Need-bump-if-requires (
   bump-reads.Asked,
   bump-reads.Learnt,
-  tl-below t,
-  tl.Post,
+  u-below t,
+  u.Post,
   bump-if-reads.Asked,
   bump-if-reads.Learnt,
 ) (tg-at t) tg.Post
 tg-bump-if-requires t c κs =
-    c .before .before .before .before .before .tl .ensures .under 0 .ready (c .before .if2 .left)
+    c .before .before .before .before .before .u .ensures .under 0 .ready (c .before .if2 .left)
 
 -- src/lib.rt:978:9
 tg-same-length-3 : (t : ℕ) → tg-lts.Need-same-length-3 (
   bump-reads.Asked,
   bump-reads.Learnt,
-  tl-below t,
-  tl.Post,
+  u-below t,
+  u.Post,
   bump-if-reads.Asked,
   bump-if-reads.Learnt,
 ) (tg-at t) tg.Post
 tg-same-length-3 t c =
-    c .before .before .before .before .bump-if .ensures .under 0 .len ∙ (c .before .before .before .before .before .before .before .before .before .before .tl .ensures .under 0 .len ∙ (c .before .before .before .before .before .before .before .before .before .before .before .before .before .before .before .before .bump .ensures .under 0 .len))
+    c .before .before .before .before .bump-if .ensures .under 0 .len ∙ (c .before .before .before .before .before .before .before .before .before .before .u .ensures .under 0 .len ∙ (c .before .before .before .before .before .before .before .before .before .before .before .before .before .before .before .before .bump .ensures .under 0 .len))
 
 -- src/lib.rt:978:9
 tg-returns-3 : (t : ℕ) → tg-lts.Need-returns-3 (
   bump-reads.Asked,
   bump-reads.Learnt,
-  tl-below t,
-  tl.Post,
+  u-below t,
+  u.Post,
   bump-if-reads.Asked,
   bump-if-reads.Learnt,
 ) (tg-at t) tg.Post
 unfolding expr-tuple-or-group
 tg-returns-3 t c =
-    record { under = λ m. both (c .before .before .before .before .before .before .before .before .before .before .before .before .before .before .before .before .bump .ensures .under _) (c .before .before .before .before .before .before .before .before .before .before .before .before .if1 .left) (both (c .before .before .before .before .before .before .before .before .before .before .tl .ensures .under _) (c .before .before .before .before .before .before .if2 .left) (cut (ends (c .before .before .before .before .bump-if .ensures .under _)) (c .if3 .taken))) }
+    record { under = λ m. both (c .before .before .before .before .before .before .before .before .before .before .before .before .before .before .before .before .bump .ensures .under _) (c .before .before .before .before .before .before .before .before .before .before .before .before .if1 .left) (both (c .before .before .before .before .before .before .before .before .before .before .u .ensures .under _) (c .before .before .before .before .before .before .if2 .left) (cut (ends (c .before .before .before .before .bump-if .ensures .under _)) (c .if3 .taken))) }
 
 -- src/lib.rt:982:9
 tg-same-length-4 : (t : ℕ) → tg-lts.Need-same-length-4 (
   bump-reads.Asked,
   bump-reads.Learnt,
-  tl-below t,
-  tl.Post,
+  u-below t,
+  u.Post,
   bump-if-reads.Asked,
   bump-if-reads.Learnt,
 ) (tg-at t) tg.Post
 tg-same-length-4 t c =
-    c .before .before .before .before .before .bump-if .ensures .under 0 .len ∙ (c .before .before .before .before .before .before .before .before .before .before .before .tl .ensures .under 0 .len ∙ (c .before .before .before .before .before .before .before .before .before .before .before .before .before .before .before .before .before .bump .ensures .under 0 .len))
+    c .before .before .before .before .before .bump-if .ensures .under 0 .len ∙ (c .before .before .before .before .before .before .before .before .before .before .before .u .ensures .under 0 .len ∙ (c .before .before .before .before .before .before .before .before .before .before .before .before .before .before .before .before .before .bump .ensures .under 0 .len))
 
 -- src/lib.rt:982:9
 tg-returns-4 : (t : ℕ) → tg-lts.Need-returns-4 (
   bump-reads.Asked,
   bump-reads.Learnt,
-  tl-below t,
-  tl.Post,
+  u-below t,
+  u.Post,
   bump-if-reads.Asked,
   bump-if-reads.Learnt,
 ) (tg-at t) tg.Post
 unfolding expr-tuple-or-group
 tg-returns-4 t c =
-    record { under = λ m. both (c .before .before .before .before .before .before .before .before .before .before .before .before .before .before .before .before .before .bump .ensures .under _) (c .before .before .before .before .before .before .before .before .before .before .before .before .before .if1 .left) (both (c .before .before .before .before .before .before .before .before .before .before .before .tl .ensures .under _) (c .before .before .before .before .before .before .before .if2 .left) (both (ends (c .before .before .before .before .before .bump-if .ensures .under _)) (c .before .if3 .left) (if-yes (eq-eqb _ _ (c .if4 .taken)) (answered (c .before .before .before .before .before .bump-if .ensures .under 0 .ready (c .before .if3 .left)))))) }
+    record { under = λ m. both (c .before .before .before .before .before .before .before .before .before .before .before .before .before .before .before .before .before .bump .ensures .under _) (c .before .before .before .before .before .before .before .before .before .before .before .before .before .if1 .left) (both (c .before .before .before .before .before .before .before .before .before .before .before .u .ensures .under _) (c .before .before .before .before .before .before .before .if2 .left) (both (ends (c .before .before .before .before .before .bump-if .ensures .under _)) (c .before .if3 .left) (if-yes (eq-eqb _ _ (c .if4 .taken)) (answered (c .before .before .before .before .before .bump-if .ensures .under 0 .ready (c .before .if3 .left)))))) }
 
 -- src/lib.rt:963:1
 tg-same-length-5 : (t : ℕ) → tg-lts.Need-same-length-5 (
   bump-reads.Asked,
   bump-reads.Learnt,
-  tl-below t,
-  tl.Post,
+  u-below t,
+  u.Post,
   bump-if-reads.Asked,
   bump-if-reads.Learnt,
 ) (tg-at t) tg.Post
 tg-same-length-5 t c =
-    c .before .before .before .before .before .bump-if .ensures .under 0 .len ∙ (c .before .before .before .before .before .before .before .before .before .before .before .tl .ensures .under 0 .len ∙ (c .before .before .before .before .before .before .before .before .before .before .before .before .before .before .before .before .before .bump .ensures .under 0 .len))
+    c .before .before .before .before .before .bump-if .ensures .under 0 .len ∙ (c .before .before .before .before .before .before .before .before .before .before .before .u .ensures .under 0 .len ∙ (c .before .before .before .before .before .before .before .before .before .before .before .before .before .before .before .before .before .bump .ensures .under 0 .len))
 
 -- src/lib.rt:963:1
 tg-returns-5 : (t : ℕ) → tg-lts.Need-returns-5 (
   bump-reads.Asked,
   bump-reads.Learnt,
-  tl-below t,
-  tl.Post,
+  u-below t,
+  u.Post,
   bump-if-reads.Asked,
   bump-if-reads.Learnt,
 ) (tg-at t) tg.Post
 unfolding expr-tuple-or-group
 tg-returns-5 t c =
-    record { under = λ m. both (c .before .before .before .before .before .before .before .before .before .before .before .before .before .before .before .before .before .bump .ensures .under _) (c .before .before .before .before .before .before .before .before .before .before .before .before .before .if1 .left) (both (c .before .before .before .before .before .before .before .before .before .before .before .tl .ensures .under _) (c .before .before .before .before .before .before .before .if2 .left) (both (ends (c .before .before .before .before .before .bump-if .ensures .under _)) (c .before .if3 .left) (if-no (ne-eqb _ _ (c .if4 .left)) (answered (c .before .before .before .before .before .bump-if .ensures .under 0 .ready (c .before .if3 .left)))))) }
+    record { under = λ m. both (c .before .before .before .before .before .before .before .before .before .before .before .before .before .before .before .before .before .bump .ensures .under _) (c .before .before .before .before .before .before .before .before .before .before .before .before .before .if1 .left) (both (c .before .before .before .before .before .before .before .before .before .before .before .u .ensures .under _) (c .before .before .before .before .before .before .before .if2 .left) (both (ends (c .before .before .before .before .before .bump-if .ensures .under _)) (c .before .if3 .left) (if-no (ne-eqb _ _ (c .if4 .left)) (answered (c .before .before .before .before .before .bump-if .ensures .under 0 .ready (c .before .if3 .left)))))) }
 
-abbrev tl-Inv-loop : tl-lts.InvT-loop
-tl-Inv-loop kinds lens table₀ t₀ is-tuple₀ table t is-tuple =
+abbrev u-Inv-loop : u-lts.InvT-loop
+u-Inv-loop kinds lens table₀ t₀ is-tuple₀ table t is-tuple =
     Loop (repeat tuple-turn is-tuple) (repeat tuple-turn false) t₀ t kinds lens table₀ table
 
-abbrev tl-μ-loop : tl-lts.MeasureT-loop
-tl-μ-loop kinds lens table₀ t₀ is-tuple₀ table t is-tuple =
+abbrev u-μ-loop : u-lts.MeasureT-loop
+u-μ-loop kinds lens table₀ t₀ is-tuple₀ table t is-tuple =
     fuel t kinds
 
 -- src/lib.rt:994:5
-tl-loop-holds : (t : ℕ) → tl-lts.Need-loop-holds (
+u-loop-holds : (t : ℕ) → u-lts.Need-loop-holds (
   peek-reads.Asked,
   peek-reads.Learnt,
   glued-reads.Asked,
@@ -16313,13 +16313,13 @@ tl-loop-holds : (t : ℕ) → tl-lts.Need-loop-holds (
   ex.Post,
   bump-while-reads.Asked,
   bump-while-reads.Learnt,
-) (tl-at t) tl.Post tl-Inv-loop tl-μ-loop
+) (u-at t) u.Post u-Inv-loop u-μ-loop
 unfolding tuple-items tuple-turn
-tl-loop-holds t c =
+u-loop-holds t c =
     record { ready = c .before .before .before .pre .1; under = λ m. inv-start }
 
 -- src/lib.rt:994:52
-tl-peek-requires : (t : ℕ) → tl-lts.Need-peek-requires (
+u-peek-requires : (t : ℕ) → u-lts.Need-peek-requires (
   peek-reads.Asked,
   peek-reads.Learnt,
   glued-reads.Asked,
@@ -16330,12 +16330,12 @@ tl-peek-requires : (t : ℕ) → tl-lts.Need-peek-requires (
   ex.Post,
   bump-while-reads.Asked,
   bump-while-reads.Learnt,
-) (tl-at t) tl.Post tl-Inv-loop tl-μ-loop
-tl-peek-requires t c κs =
+) (u-at t) u.Post u-Inv-loop u-μ-loop
+u-peek-requires t c κs =
     (c .loop .inv .ready) .looks
 
 -- src/lib.rt:994:67
-tl-glued-requires : (t : ℕ) → tl-lts.Need-glued-requires (
+u-glued-requires : (t : ℕ) → u-lts.Need-glued-requires (
   peek-reads.Asked,
   peek-reads.Learnt,
   glued-reads.Asked,
@@ -16346,12 +16346,12 @@ tl-glued-requires : (t : ℕ) → tl-lts.Need-glued-requires (
   ex.Post,
   bump-while-reads.Asked,
   bump-while-reads.Learnt,
-) (tl-at t) tl.Post tl-Inv-loop tl-μ-loop
-tl-glued-requires t c κs =
+) (u-at t) u.Post u-Inv-loop u-μ-loop
+u-glued-requires t c κs =
     (c .before .loop .inv .ready) .looks
 
 -- src/lib.rt:994:11
-tl-is-expr-with-requires : (t : ℕ) → tl-lts.Need-is-expr-with-requires (
+u-is-expr-with-requires : (t : ℕ) → u-lts.Need-is-expr-with-requires (
   peek-reads.Asked,
   peek-reads.Learnt,
   glued-reads.Asked,
@@ -16362,12 +16362,12 @@ tl-is-expr-with-requires : (t : ℕ) → tl-lts.Need-is-expr-with-requires (
   ex.Post,
   bump-while-reads.Asked,
   bump-while-reads.Learnt,
-) (tl-at t) tl.Post tl-Inv-loop tl-μ-loop
-tl-is-expr-with-requires t c κs =
+) (u-at t) u.Post u-Inv-loop u-μ-loop
+u-is-expr-with-requires t c κs =
     search needs
 
 -- src/lib.rt:995:9
-tl-ex-requires : (t : ℕ) → tl-lts.Need-ex-requires (
+u-ex-requires : (t : ℕ) → u-lts.Need-ex-requires (
   peek-reads.Asked,
   peek-reads.Learnt,
   glued-reads.Asked,
@@ -16378,12 +16378,12 @@ tl-ex-requires : (t : ℕ) → tl-lts.Need-ex-requires (
   ex.Post,
   bump-while-reads.Asked,
   bump-while-reads.Learnt,
-) (tl-at t) tl.Post tl-Inv-loop tl-μ-loop
-tl-ex-requires t c κs =
+) (u-at t) u.Post u-Inv-loop u-μ-loop
+u-ex-requires t c κs =
     (omega (arith, c .before .before .before .before .before .before .before .before .before .pre .0, c .before .before .before .before .before .loop .inv .under 0 .left), c .before .before .before .before .before .loop .inv .ready)
 
 -- src/lib.rt:997:13
-tl-same-length : (t : ℕ) → tl-lts.Need-same-length (
+u-same-length : (t : ℕ) → u-lts.Need-same-length (
   peek-reads.Asked,
   peek-reads.Learnt,
   glued-reads.Asked,
@@ -16394,12 +16394,12 @@ tl-same-length : (t : ℕ) → tl-lts.Need-same-length (
   ex.Post,
   bump-while-reads.Asked,
   bump-while-reads.Learnt,
-) (tl-at t) tl.Post tl-Inv-loop tl-μ-loop
-tl-same-length t c =
+) (u-at t) u.Post u-Inv-loop u-μ-loop
+u-same-length t c =
     c .before .before .before .before .ex .ensures .under 0 .len ∙ (c .before .before .before .before .before .before .before .before .before .before .loop .inv .under 0 .len)
 
 -- src/lib.rt:997:13
-tl-returns : (t : ℕ) → tl-lts.Need-returns (
+u-returns : (t : ℕ) → u-lts.Need-returns (
   peek-reads.Asked,
   peek-reads.Learnt,
   glued-reads.Asked,
@@ -16410,13 +16410,13 @@ tl-returns : (t : ℕ) → tl-lts.Need-returns (
   ex.Post,
   bump-while-reads.Asked,
   bump-while-reads.Learnt,
-) (tl-at t) tl.Post tl-Inv-loop tl-μ-loop
+) (u-at t) u.Post u-Inv-loop u-μ-loop
 unfolding tuple-items tuple-turn
-tl-returns t c =
+u-returns t c =
     record { under = λ m. inv-end (c .before .before .before .before .before .before .before .before .before .before .loop .inv .under _) (last-cut (ask-glued (c .before .before .before .before .before .before .before .before .before .peek .ensures) (c .before .before .before .before .before .before .before .before .glued .ensures) (if-yes (sym (c .before .before .before .before .before .before .before .is-expr-with .ensures) ∙ c .before .before .before .before .before .before .if1 .taken) (cut (c .before .before .before .before .ex .ensures .under _) (c .if2 .taken)))) (c .if2 .taken)) }
 
 -- src/lib.rt:999:9
-tl-bump-while-requires : (t : ℕ) → tl-lts.Need-bump-while-requires (
+u-bump-while-requires : (t : ℕ) → u-lts.Need-bump-while-requires (
   peek-reads.Asked,
   peek-reads.Learnt,
   glued-reads.Asked,
@@ -16427,12 +16427,12 @@ tl-bump-while-requires : (t : ℕ) → tl-lts.Need-bump-while-requires (
   ex.Post,
   bump-while-reads.Asked,
   bump-while-reads.Learnt,
-) (tl-at t) tl.Post tl-Inv-loop tl-μ-loop
-tl-bump-while-requires t c κs =
+) (u-at t) u.Post u-Inv-loop u-μ-loop
+u-bump-while-requires t c κs =
     (omega arith, c .before .before .before .before .before .ex .ensures .under 0 .ready (c .before .if2 .left))
 
 -- src/lib.rt:1001:13
-tl-same-length-2 : (t : ℕ) → tl-lts.Need-same-length-2 (
+u-same-length-2 : (t : ℕ) → u-lts.Need-same-length-2 (
   peek-reads.Asked,
   peek-reads.Learnt,
   glued-reads.Asked,
@@ -16443,12 +16443,12 @@ tl-same-length-2 : (t : ℕ) → tl-lts.Need-same-length-2 (
   ex.Post,
   bump-while-reads.Asked,
   bump-while-reads.Learnt,
-) (tl-at t) tl.Post tl-Inv-loop tl-μ-loop
-tl-same-length-2 t c =
+) (u-at t) u.Post u-Inv-loop u-μ-loop
+u-same-length-2 t c =
     c .before .before .before .before .bump-while .ensures .under 0 .len ∙ (c .before .before .before .before .before .before .before .before .before .before .ex .ensures .under 0 .len ∙ (c .before .before .before .before .before .before .before .before .before .before .before .before .before .before .before .before .loop .inv .under 0 .len))
 
 -- src/lib.rt:1001:13
-tl-returns-2 : (t : ℕ) → tl-lts.Need-returns-2 (
+u-returns-2 : (t : ℕ) → u-lts.Need-returns-2 (
   peek-reads.Asked,
   peek-reads.Learnt,
   glued-reads.Asked,
@@ -16459,13 +16459,13 @@ tl-returns-2 : (t : ℕ) → tl-lts.Need-returns-2 (
   ex.Post,
   bump-while-reads.Asked,
   bump-while-reads.Learnt,
-) (tl-at t) tl.Post tl-Inv-loop tl-μ-loop
+) (u-at t) u.Post u-Inv-loop u-μ-loop
 unfolding tuple-items tuple-turn
-tl-returns-2 t c =
+u-returns-2 t c =
     record { under = λ m. inv-end (c .before .before .before .before .before .before .before .before .before .before .before .before .before .before .before .before .loop .inv .under _) (last-cut (ask-glued (c .before .before .before .before .before .before .before .before .before .before .before .before .before .before .before .peek .ensures) (c .before .before .before .before .before .before .before .before .before .before .before .before .before .before .glued .ensures) (if-yes (sym (c .before .before .before .before .before .before .before .before .before .before .before .before .before .is-expr-with .ensures) ∙ c .before .before .before .before .before .before .before .before .before .before .before .before .if1 .taken) (both (c .before .before .before .before .before .before .before .before .before .before .ex .ensures .under _) (c .before .before .before .before .before .before .if2 .left) (cut (c .before .before .before .before .bump-while .ensures .under _) (c .if3 .taken))))) (c .if3 .taken)) }
 
 -- src/lib.rt:994:5
-tl-loop-less : (t : ℕ) → tl-lts.Need-loop-less (
+u-loop-less : (t : ℕ) → u-lts.Need-loop-less (
   peek-reads.Asked,
   peek-reads.Learnt,
   glued-reads.Asked,
@@ -16476,12 +16476,12 @@ tl-loop-less : (t : ℕ) → tl-lts.Need-loop-less (
   ex.Post,
   bump-while-reads.Asked,
   bump-while-reads.Learnt,
-) (tl-at t) tl.Post tl-Inv-loop tl-μ-loop
-tl-loop-less t c =
+) (u-at t) u.Post u-Inv-loop u-μ-loop
+u-loop-less t c =
     burns (c .before .before .before .before .before .bump-while .ensures .under 0 .ready (c .before .if3 .left)) (and-on (goes-on (c .before .before .before .before .before .before .before .before .before .before .before .ex .ensures .under 0) (c .before .before .before .before .before .before .before .if2 .left) (λ i d n s. expr-with-further i d n s _ _ _)) (c .before .before .before .before .before .bump-while .ensures .under 0) (c .before .if3 .left))
 
 -- src/lib.rt:994:5
-tl-loop-again : (t : ℕ) → tl-lts.Need-loop-again (
+u-loop-again : (t : ℕ) → u-lts.Need-loop-again (
   peek-reads.Asked,
   peek-reads.Learnt,
   glued-reads.Asked,
@@ -16492,13 +16492,13 @@ tl-loop-again : (t : ℕ) → tl-lts.Need-loop-again (
   ex.Post,
   bump-while-reads.Asked,
   bump-while-reads.Learnt,
-) (tl-at t) tl.Post tl-Inv-loop tl-μ-loop
+) (u-at t) u.Post u-Inv-loop u-μ-loop
 unfolding tuple-items tuple-turn
-tl-loop-again t c =
+u-loop-again t c =
     record { ready = c .before .before .before .before .before .bump-while .ensures .under 0 .ready (c .before .if3 .left); under = λ m. inv-again (c .before .before .before .before .before .before .before .before .before .before .before .before .before .before .before .before .before .loop .inv .under m) (ask-glued (c .before .before .before .before .before .before .before .before .before .before .before .before .before .before .before .before .peek .ensures) (c .before .before .before .before .before .before .before .before .before .before .before .before .before .before .before .glued .ensures) (if-yes (sym (c .before .before .before .before .before .before .before .before .before .before .before .before .before .before .is-expr-with .ensures) ∙ c .before .before .before .before .before .before .before .before .before .before .before .before .before .if1 .taken) (both (c .before .before .before .before .before .before .before .before .before .before .before .ex .ensures .under _) (c .before .before .before .before .before .before .before .if2 .left) (both (c .before .before .before .before .before .bump-while .ensures .under _) (c .before .if3 .left) (nothing (c .before .before .before .before .before .bump-while .ensures .under 0 .ready (c .before .if3 .left))))))) (c .before .if3 .left) (and-on (goes-on (c .before .before .before .before .before .before .before .before .before .before .before .ex .ensures .under 0) (c .before .before .before .before .before .before .before .if2 .left) (λ i d n s. expr-with-further i d n s _ _ _)) (c .before .before .before .before .before .bump-while .ensures .under 0) (c .before .if3 .left)) }
 
 -- src/lib.rt:1007:9
-tl-same-length-3 : (t : ℕ) → tl-lts.Need-same-length-3 (
+u-same-length-3 : (t : ℕ) → u-lts.Need-same-length-3 (
   peek-reads.Asked,
   peek-reads.Learnt,
   glued-reads.Asked,
@@ -16509,12 +16509,12 @@ tl-same-length-3 : (t : ℕ) → tl-lts.Need-same-length-3 (
   ex.Post,
   bump-while-reads.Asked,
   bump-while-reads.Learnt,
-) (tl-at t) tl.Post tl-Inv-loop tl-μ-loop
-tl-same-length-3 t c =
+) (u-at t) u.Post u-Inv-loop u-μ-loop
+u-same-length-3 t c =
     c .before .before .before .before .before .loop .inv .under 0 .len
 
 -- src/lib.rt:1007:9
-tl-returns-3 : (t : ℕ) → tl-lts.Need-returns-3 (
+u-returns-3 : (t : ℕ) → u-lts.Need-returns-3 (
   peek-reads.Asked,
   peek-reads.Learnt,
   glued-reads.Asked,
@@ -16525,13 +16525,13 @@ tl-returns-3 : (t : ℕ) → tl-lts.Need-returns-3 (
   ex.Post,
   bump-while-reads.Asked,
   bump-while-reads.Learnt,
-) (tl-at t) tl.Post tl-Inv-loop tl-μ-loop
+) (u-at t) u.Post u-Inv-loop u-μ-loop
 unfolding tuple-items tuple-turn
-tl-returns-3 t c =
+u-returns-3 t c =
     record { under = λ m. inv-end (c .before .before .before .before .before .loop .inv .under _) (last (ask-glued (c .before .before .before .before .peek .ensures) (c .before .before .before .glued .ensures) (if-no (sym (c .before .before .is-expr-with .ensures) ∙ c .before .if1 .left) (answered-as (ap (λ (x : Bool). inr x) (c .if4 .taken)) (c .before .before .before .before .before .loop .inv .ready)))) (c .before .before .before .before .before .loop .inv .ready .going)) }
 
 -- src/lib.rt:988:1
-tl-same-length-4 : (t : ℕ) → tl-lts.Need-same-length-4 (
+u-same-length-4 : (t : ℕ) → u-lts.Need-same-length-4 (
   peek-reads.Asked,
   peek-reads.Learnt,
   glued-reads.Asked,
@@ -16542,12 +16542,12 @@ tl-same-length-4 : (t : ℕ) → tl-lts.Need-same-length-4 (
   ex.Post,
   bump-while-reads.Asked,
   bump-while-reads.Learnt,
-) (tl-at t) tl.Post tl-Inv-loop tl-μ-loop
-tl-same-length-4 t c =
+) (u-at t) u.Post u-Inv-loop u-μ-loop
+u-same-length-4 t c =
     c .before .before .before .before .before .loop .inv .under 0 .len
 
 -- src/lib.rt:988:1
-tl-returns-4 : (t : ℕ) → tl-lts.Need-returns-4 (
+u-returns-4 : (t : ℕ) → u-lts.Need-returns-4 (
   peek-reads.Asked,
   peek-reads.Learnt,
   glued-reads.Asked,
@@ -16558,132 +16558,132 @@ tl-returns-4 : (t : ℕ) → tl-lts.Need-returns-4 (
   ex.Post,
   bump-while-reads.Asked,
   bump-while-reads.Learnt,
-) (tl-at t) tl.Post tl-Inv-loop tl-μ-loop
+) (u-at t) u.Post u-Inv-loop u-μ-loop
 unfolding tuple-items tuple-turn
-tl-returns-4 t c =
+u-returns-4 t c =
     record { under = λ m. inv-end (c .before .before .before .before .before .loop .inv .under _) (last (ask-glued (c .before .before .before .before .peek .ensures) (c .before .before .before .glued .ensures) (if-no (sym (c .before .before .is-expr-with .ensures) ∙ c .before .if1 .left) (answered-as (ap (λ (x : Bool). inr x) (c .if4 .left)) (c .before .before .before .before .before .loop .inv .ready)))) (c .before .before .before .before .before .loop .inv .ready .going)) }
 
 -- src/lib.rt:1197:9
-wh-bump-requires : (t : ℕ) → wh-lts.Need-bump-requires (
+w-bump-requires : (t : ℕ) → w-lts.Need-bump-requires (
   bump-reads.Asked,
   bump-reads.Learnt,
   co-below t,
   co.Post,
   bl-below t,
   bl.Post,
-) (wh-at t) wh.Post
-wh-bump-requires t c κs =
+) (w-at t) w.Post
+w-bump-requires t c κs =
     c .before .before .before .before .pre .1
 
 -- src/lib.rt:1199:9
-wh-same-length : (t : ℕ) → wh-lts.Need-same-length (
+w-same-length : (t : ℕ) → w-lts.Need-same-length (
   bump-reads.Asked,
   bump-reads.Learnt,
   co-below t,
   co.Post,
   bl-below t,
   bl.Post,
-) (wh-at t) wh.Post
-wh-same-length t c =
+) (w-at t) w.Post
+w-same-length t c =
     c .before .before .before .before .bump .ensures .under 0 .len
 
 -- src/lib.rt:1199:9
-wh-returns : (t : ℕ) → wh-lts.Need-returns (
+w-returns : (t : ℕ) → w-lts.Need-returns (
   bump-reads.Asked,
   bump-reads.Learnt,
   co-below t,
   co.Post,
   bl-below t,
   bl.Post,
-) (wh-at t) wh.Post
+) (w-at t) w.Post
 unfolding expr-while
-wh-returns t c =
+w-returns t c =
     record { under = λ m. cut (c .before .before .before .before .bump .ensures .under _) (c .if1 .taken) }
 
 -- src/lib.rt:1201:5
-wh-co-requires : (t : ℕ) → wh-lts.Need-co-requires (
+w-co-requires : (t : ℕ) → w-lts.Need-co-requires (
   bump-reads.Asked,
   bump-reads.Learnt,
   co-below t,
   co.Post,
   bl-below t,
   bl.Post,
-) (wh-at t) wh.Post
-wh-co-requires t c κs =
+) (w-at t) w.Post
+w-co-requires t c κs =
     (omega (arith, c .before .before .before .before .before .before .before .before .before .before .pre .0, c .before .before .before .before .before .bump .ensures .under 0 .left), c .before .before .before .before .before .bump .ensures .under 0 .ready (c .before .if1 .left))
 
 -- src/lib.rt:1203:9
-wh-same-length-2 : (t : ℕ) → wh-lts.Need-same-length-2 (
+w-same-length-2 : (t : ℕ) → w-lts.Need-same-length-2 (
   bump-reads.Asked,
   bump-reads.Learnt,
   co-below t,
   co.Post,
   bl-below t,
   bl.Post,
-) (wh-at t) wh.Post
-wh-same-length-2 t c =
+) (w-at t) w.Post
+w-same-length-2 t c =
     c .before .before .before .before .co .ensures .under 0 .len ∙ (c .before .before .before .before .before .before .before .before .before .before .bump .ensures .under 0 .len)
 
 -- src/lib.rt:1203:9
-wh-returns-2 : (t : ℕ) → wh-lts.Need-returns-2 (
+w-returns-2 : (t : ℕ) → w-lts.Need-returns-2 (
   bump-reads.Asked,
   bump-reads.Learnt,
   co-below t,
   co.Post,
   bl-below t,
   bl.Post,
-) (wh-at t) wh.Post
+) (w-at t) w.Post
 unfolding expr-while
-wh-returns-2 t c =
+w-returns-2 t c =
     record { under = λ m. both (c .before .before .before .before .before .before .before .before .before .before .bump .ensures .under _) (c .before .before .before .before .before .before .if1 .left) (cut (c .before .before .before .before .co .ensures .under _) (c .if2 .taken)) }
 
 -- src/lib.rt:1205:5
-wh-bl-requires : (t : ℕ) → wh-lts.Need-bl-requires (
+w-bl-requires : (t : ℕ) → w-lts.Need-bl-requires (
   bump-reads.Asked,
   bump-reads.Learnt,
   co-below t,
   co.Post,
   bl-below t,
   bl.Post,
-) (wh-at t) wh.Post
-wh-bl-requires t c κs =
+) (w-at t) w.Post
+w-bl-requires t c κs =
     (omega (arith, c .before .before .before .before .before .before .before .before .before .before .before .before .before .before .before .before .pre .0, c .before .before .before .before .before .before .before .before .before .before .before .bump .ensures .under 0 .left, c .before .before .before .before .before .co .ensures .under 0 .left), c .before .before .before .before .before .co .ensures .under 0 .ready (c .before .if2 .left))
 
 -- src/lib.rt:1193:1
-wh-same-length-3 : (t : ℕ) → wh-lts.Need-same-length-3 (
+w-same-length-3 : (t : ℕ) → w-lts.Need-same-length-3 (
   bump-reads.Asked,
   bump-reads.Learnt,
   co-below t,
   co.Post,
   bl-below t,
   bl.Post,
-) (wh-at t) wh.Post
-wh-same-length-3 t c =
+) (w-at t) w.Post
+w-same-length-3 t c =
     c .before .before .bl .ensures .under 0 .len ∙ (c .before .before .before .before .before .before .before .before .co .ensures .under 0 .len ∙ (c .before .before .before .before .before .before .before .before .before .before .before .before .before .before .bump .ensures .under 0 .len))
 
 -- src/lib.rt:1193:1
-wh-returns-3 : (t : ℕ) → wh-lts.Need-returns-3 (
+w-returns-3 : (t : ℕ) → w-lts.Need-returns-3 (
   bump-reads.Asked,
   bump-reads.Learnt,
   co-below t,
   co.Post,
   bl-below t,
   bl.Post,
-) (wh-at t) wh.Post
+) (w-at t) w.Post
 unfolding expr-while
-wh-returns-3 t c =
+w-returns-3 t c =
     record { under = λ m. both (c .before .before .before .before .before .before .before .before .before .before .before .before .before .before .bump .ensures .under _) (c .before .before .before .before .before .before .before .before .before .before .if1 .left) (both (c .before .before .before .before .before .before .before .before .co .ensures .under _) (c .before .before .before .before .if2 .left) (c .before .before .bl .ensures .under _)) }
 
-abbrev xl-Inv-loop : xl-lts.InvT-loop
-xl-Inv-loop kinds lens table₀ t₀ table t =
+abbrev x-Inv-loop : x-lts.InvT-loop
+x-Inv-loop kinds lens table₀ t₀ table t =
     Loop (expr-list) (expr-list) t₀ t kinds lens table₀ table
 
-abbrev xl-μ-loop : xl-lts.MeasureT-loop
-xl-μ-loop kinds lens table₀ t₀ table t =
+abbrev x-μ-loop : x-lts.MeasureT-loop
+x-μ-loop kinds lens table₀ t₀ table t =
     fuel t kinds
 
 -- src/lib.rt:930:5
-xl-loop-holds : (t : ℕ) → xl-lts.Need-loop-holds (
+x-loop-holds : (t : ℕ) → x-lts.Need-loop-holds (
   peek-reads.Asked,
   peek-reads.Learnt,
   glued-reads.Asked,
@@ -16694,13 +16694,13 @@ xl-loop-holds : (t : ℕ) → xl-lts.Need-loop-holds (
   ex.Post,
   bump-while-reads.Asked,
   bump-while-reads.Learnt,
-) (xl-at t) xl.Post xl-Inv-loop xl-μ-loop
+) (x-at t) x.Post x-Inv-loop x-μ-loop
 unfolding expr-list while-turn
-xl-loop-holds t c =
+x-loop-holds t c =
     record { ready = c .before .before .before .pre .1; under = λ m. inv-start }
 
 -- src/lib.rt:930:52
-xl-peek-requires : (t : ℕ) → xl-lts.Need-peek-requires (
+x-peek-requires : (t : ℕ) → x-lts.Need-peek-requires (
   peek-reads.Asked,
   peek-reads.Learnt,
   glued-reads.Asked,
@@ -16711,12 +16711,12 @@ xl-peek-requires : (t : ℕ) → xl-lts.Need-peek-requires (
   ex.Post,
   bump-while-reads.Asked,
   bump-while-reads.Learnt,
-) (xl-at t) xl.Post xl-Inv-loop xl-μ-loop
-xl-peek-requires t c κs =
+) (x-at t) x.Post x-Inv-loop x-μ-loop
+x-peek-requires t c κs =
     (c .loop .inv .ready) .looks
 
 -- src/lib.rt:930:67
-xl-glued-requires : (t : ℕ) → xl-lts.Need-glued-requires (
+x-glued-requires : (t : ℕ) → x-lts.Need-glued-requires (
   peek-reads.Asked,
   peek-reads.Learnt,
   glued-reads.Asked,
@@ -16727,12 +16727,12 @@ xl-glued-requires : (t : ℕ) → xl-lts.Need-glued-requires (
   ex.Post,
   bump-while-reads.Asked,
   bump-while-reads.Learnt,
-) (xl-at t) xl.Post xl-Inv-loop xl-μ-loop
-xl-glued-requires t c κs =
+) (x-at t) x.Post x-Inv-loop x-μ-loop
+x-glued-requires t c κs =
     (c .before .loop .inv .ready) .looks
 
 -- src/lib.rt:930:11
-xl-is-expr-with-requires : (t : ℕ) → xl-lts.Need-is-expr-with-requires (
+x-is-expr-with-requires : (t : ℕ) → x-lts.Need-is-expr-with-requires (
   peek-reads.Asked,
   peek-reads.Learnt,
   glued-reads.Asked,
@@ -16743,12 +16743,12 @@ xl-is-expr-with-requires : (t : ℕ) → xl-lts.Need-is-expr-with-requires (
   ex.Post,
   bump-while-reads.Asked,
   bump-while-reads.Learnt,
-) (xl-at t) xl.Post xl-Inv-loop xl-μ-loop
-xl-is-expr-with-requires t c κs =
+) (x-at t) x.Post x-Inv-loop x-μ-loop
+x-is-expr-with-requires t c κs =
     search needs
 
 -- src/lib.rt:931:9
-xl-ex-requires : (t : ℕ) → xl-lts.Need-ex-requires (
+x-ex-requires : (t : ℕ) → x-lts.Need-ex-requires (
   peek-reads.Asked,
   peek-reads.Learnt,
   glued-reads.Asked,
@@ -16759,12 +16759,12 @@ xl-ex-requires : (t : ℕ) → xl-lts.Need-ex-requires (
   ex.Post,
   bump-while-reads.Asked,
   bump-while-reads.Learnt,
-) (xl-at t) xl.Post xl-Inv-loop xl-μ-loop
-xl-ex-requires t c κs =
+) (x-at t) x.Post x-Inv-loop x-μ-loop
+x-ex-requires t c κs =
     (omega (arith, c .before .before .before .before .before .before .before .before .before .pre .0, c .before .before .before .before .before .loop .inv .under 0 .left), c .before .before .before .before .before .loop .inv .ready)
 
 -- src/lib.rt:933:13
-xl-same-length : (t : ℕ) → xl-lts.Need-same-length (
+x-same-length : (t : ℕ) → x-lts.Need-same-length (
   peek-reads.Asked,
   peek-reads.Learnt,
   glued-reads.Asked,
@@ -16775,12 +16775,12 @@ xl-same-length : (t : ℕ) → xl-lts.Need-same-length (
   ex.Post,
   bump-while-reads.Asked,
   bump-while-reads.Learnt,
-) (xl-at t) xl.Post xl-Inv-loop xl-μ-loop
-xl-same-length t c =
+) (x-at t) x.Post x-Inv-loop x-μ-loop
+x-same-length t c =
     c .before .before .before .before .ex .ensures .under 0 .len ∙ (c .before .before .before .before .before .before .before .before .before .before .loop .inv .under 0 .len)
 
 -- src/lib.rt:933:13
-xl-returns : (t : ℕ) → xl-lts.Need-returns (
+x-returns : (t : ℕ) → x-lts.Need-returns (
   peek-reads.Asked,
   peek-reads.Learnt,
   glued-reads.Asked,
@@ -16791,13 +16791,13 @@ xl-returns : (t : ℕ) → xl-lts.Need-returns (
   ex.Post,
   bump-while-reads.Asked,
   bump-while-reads.Learnt,
-) (xl-at t) xl.Post xl-Inv-loop xl-μ-loop
+) (x-at t) x.Post x-Inv-loop x-μ-loop
 unfolding expr-list while-turn
-xl-returns t c =
+x-returns t c =
     record { under = λ m. inv-end (c .before .before .before .before .before .before .before .before .before .before .loop .inv .under _) (last-cut (ask-glued (c .before .before .before .before .before .before .before .before .before .peek .ensures) (c .before .before .before .before .before .before .before .before .glued .ensures) (if-yes (sym (c .before .before .before .before .before .before .before .is-expr-with .ensures) ∙ c .before .before .before .before .before .before .if1 .taken) (cut (cut (c .before .before .before .before .ex .ensures .under _) (c .if2 .taken)) (c .if2 .taken)))) (c .if2 .taken)) }
 
 -- src/lib.rt:935:9
-xl-bump-while-requires : (t : ℕ) → xl-lts.Need-bump-while-requires (
+x-bump-while-requires : (t : ℕ) → x-lts.Need-bump-while-requires (
   peek-reads.Asked,
   peek-reads.Learnt,
   glued-reads.Asked,
@@ -16808,12 +16808,12 @@ xl-bump-while-requires : (t : ℕ) → xl-lts.Need-bump-while-requires (
   ex.Post,
   bump-while-reads.Asked,
   bump-while-reads.Learnt,
-) (xl-at t) xl.Post xl-Inv-loop xl-μ-loop
-xl-bump-while-requires t c κs =
+) (x-at t) x.Post x-Inv-loop x-μ-loop
+x-bump-while-requires t c κs =
     (omega arith, c .before .before .before .before .before .ex .ensures .under 0 .ready (c .before .if2 .left))
 
 -- src/lib.rt:937:13
-xl-same-length-2 : (t : ℕ) → xl-lts.Need-same-length-2 (
+x-same-length-2 : (t : ℕ) → x-lts.Need-same-length-2 (
   peek-reads.Asked,
   peek-reads.Learnt,
   glued-reads.Asked,
@@ -16824,12 +16824,12 @@ xl-same-length-2 : (t : ℕ) → xl-lts.Need-same-length-2 (
   ex.Post,
   bump-while-reads.Asked,
   bump-while-reads.Learnt,
-) (xl-at t) xl.Post xl-Inv-loop xl-μ-loop
-xl-same-length-2 t c =
+) (x-at t) x.Post x-Inv-loop x-μ-loop
+x-same-length-2 t c =
     c .before .before .before .before .bump-while .ensures .under 0 .len ∙ (c .before .before .before .before .before .before .before .before .before .before .ex .ensures .under 0 .len ∙ (c .before .before .before .before .before .before .before .before .before .before .before .before .before .before .before .before .loop .inv .under 0 .len))
 
 -- src/lib.rt:937:13
-xl-returns-2 : (t : ℕ) → xl-lts.Need-returns-2 (
+x-returns-2 : (t : ℕ) → x-lts.Need-returns-2 (
   peek-reads.Asked,
   peek-reads.Learnt,
   glued-reads.Asked,
@@ -16840,13 +16840,13 @@ xl-returns-2 : (t : ℕ) → xl-lts.Need-returns-2 (
   ex.Post,
   bump-while-reads.Asked,
   bump-while-reads.Learnt,
-) (xl-at t) xl.Post xl-Inv-loop xl-μ-loop
+) (x-at t) x.Post x-Inv-loop x-μ-loop
 unfolding expr-list while-turn
-xl-returns-2 t c =
+x-returns-2 t c =
     record { under = λ m. inv-end (c .before .before .before .before .before .before .before .before .before .before .before .before .before .before .before .before .loop .inv .under _) (last-cut (ask-glued (c .before .before .before .before .before .before .before .before .before .before .before .before .before .before .before .peek .ensures) (c .before .before .before .before .before .before .before .before .before .before .before .before .before .before .glued .ensures) (if-yes (sym (c .before .before .before .before .before .before .before .before .before .before .before .before .before .is-expr-with .ensures) ∙ c .before .before .before .before .before .before .before .before .before .before .before .before .if1 .taken) (cut (both (c .before .before .before .before .before .before .before .before .before .before .ex .ensures .under _) (c .before .before .before .before .before .before .if2 .left) (refusal (ends (c .before .before .before .before .bump-while .ensures .under _)) (c .if3 .taken))) (c .if3 .taken)))) (c .if3 .taken)) }
 
 -- src/lib.rt:930:5
-xl-loop-less : (t : ℕ) → xl-lts.Need-loop-less (
+x-loop-less : (t : ℕ) → x-lts.Need-loop-less (
   peek-reads.Asked,
   peek-reads.Learnt,
   glued-reads.Asked,
@@ -16857,12 +16857,12 @@ xl-loop-less : (t : ℕ) → xl-lts.Need-loop-less (
   ex.Post,
   bump-while-reads.Asked,
   bump-while-reads.Learnt,
-) (xl-at t) xl.Post xl-Inv-loop xl-μ-loop
-xl-loop-less t c =
+) (x-at t) x.Post x-Inv-loop x-μ-loop
+x-loop-less t c =
     burns (c .before .before .before .before .bump-while .ensures .under 0 .ready (c .if3 .left)) (and-on (goes-on (c .before .before .before .before .before .before .before .before .before .before .ex .ensures .under 0) (c .before .before .before .before .before .before .if2 .left) (λ i d n s. expr-with-further i d n s _ _ _)) (c .before .before .before .before .bump-while .ensures .under 0) (c .if3 .left))
 
 -- src/lib.rt:930:5
-xl-loop-again : (t : ℕ) → xl-lts.Need-loop-again (
+x-loop-again : (t : ℕ) → x-lts.Need-loop-again (
   peek-reads.Asked,
   peek-reads.Learnt,
   glued-reads.Asked,
@@ -16873,13 +16873,13 @@ xl-loop-again : (t : ℕ) → xl-lts.Need-loop-again (
   ex.Post,
   bump-while-reads.Asked,
   bump-while-reads.Learnt,
-) (xl-at t) xl.Post xl-Inv-loop xl-μ-loop
+) (x-at t) x.Post x-Inv-loop x-μ-loop
 unfolding expr-list while-turn
-xl-loop-again t c =
+x-loop-again t c =
     record { ready = c .before .before .before .before .bump-while .ensures .under 0 .ready (c .if3 .left); under = λ m. inv-again (c .before .before .before .before .before .before .before .before .before .before .before .before .before .before .before .before .loop .inv .under m) (ask-glued (c .before .before .before .before .before .before .before .before .before .before .before .before .before .before .before .peek .ensures) (c .before .before .before .before .before .before .before .before .before .before .before .before .before .before .glued .ensures) (if-yes (sym (c .before .before .before .before .before .before .before .before .before .before .before .before .before .is-expr-with .ensures) ∙ c .before .before .before .before .before .before .before .before .before .before .before .before .if1 .taken) (both (both (c .before .before .before .before .before .before .before .before .before .before .ex .ensures .under _) (c .before .before .before .before .before .before .if2 .left) (ends (c .before .before .before .before .bump-while .ensures .under _))) (c .if3 .left) (nothing (c .before .before .before .before .bump-while .ensures .under 0 .ready (c .if3 .left)))))) (c .if3 .left) (and-on (goes-on (c .before .before .before .before .before .before .before .before .before .before .ex .ensures .under 0) (c .before .before .before .before .before .before .if2 .left) (λ i d n s. expr-with-further i d n s _ _ _)) (c .before .before .before .before .bump-while .ensures .under 0) (c .if3 .left)) }
 
 -- src/lib.rt:925:1
-xl-same-length-3 : (t : ℕ) → xl-lts.Need-same-length-3 (
+x-same-length-3 : (t : ℕ) → x-lts.Need-same-length-3 (
   peek-reads.Asked,
   peek-reads.Learnt,
   glued-reads.Asked,
@@ -16890,12 +16890,12 @@ xl-same-length-3 : (t : ℕ) → xl-lts.Need-same-length-3 (
   ex.Post,
   bump-while-reads.Asked,
   bump-while-reads.Learnt,
-) (xl-at t) xl.Post xl-Inv-loop xl-μ-loop
-xl-same-length-3 t c =
+) (x-at t) x.Post x-Inv-loop x-μ-loop
+x-same-length-3 t c =
     c .before .before .before .before .loop .inv .under 0 .len
 
 -- src/lib.rt:925:1
-xl-returns-3 : (t : ℕ) → xl-lts.Need-returns-3 (
+x-returns-3 : (t : ℕ) → x-lts.Need-returns-3 (
   peek-reads.Asked,
   peek-reads.Learnt,
   glued-reads.Asked,
@@ -16906,17 +16906,17 @@ xl-returns-3 : (t : ℕ) → xl-lts.Need-returns-3 (
   ex.Post,
   bump-while-reads.Asked,
   bump-while-reads.Learnt,
-) (xl-at t) xl.Post xl-Inv-loop xl-μ-loop
+) (x-at t) x.Post x-Inv-loop x-μ-loop
 unfolding expr-list while-turn
-xl-returns-3 t c =
+x-returns-3 t c =
     record { under = λ m. inv-end (c .before .before .before .before .loop .inv .under _) (last (ask-glued (c .before .before .before .peek .ensures) (c .before .before .glued .ensures) (if-no (sym (c .before .is-expr-with .ensures) ∙ c .if1 .left) (nothing (c .before .before .before .before .loop .inv .ready)))) (c .before .before .before .before .loop .inv .ready .going)) }
 
-pub +ai+bb+bi+bl+bo+bs+bw+by+ca+cd+ch+ci+co+cs+ea+eb+eg+ei+el+en+er+ex+fi+fo+ic+ii+im+is+it+lc+li+lp+ma+mc+ml+ne+oa+ob+oc+of+oj+on+oo+ot+ou+pa+pg+pj+pk+pl+pp+pq+pr+ps+pu+pw+px+ra+rd+rr+s2+s3+sb+sc+se+si+sk+sl+so+sp+st+tg+tl+wh+xl-spec :
+pub +a+b+bi+bl+bo+bs+bw+by+ca+cd+ch+ci+co+d+e+eb+eg+ei+el+en+er+ex+f+fo+h+i+im+is+it+l+li+lp+ma+mc+ml+n+o+ob+oc+of+oj+on+oo+ot+ou+p+pg+pj+pk+pl+pp+pq+pr+ps+pu+pw+q+r+rd+rr+s+s3+sb+sc+se+si+sk+sl+so+sp+st+tg+u+w+x-spec :
     {M : Type 1} → statement M
-+ai+bb+bi+bl+bo+bs+bw+by+ca+cd+ch+ci+co+cs+ea+eb+eg+ei+el+en+er+ex+fi+fo+ic+ii+im+is+it+lc+li+lp+ma+mc+ml+ne+oa+ob+oc+of+oj+on+oo+ot+ou+pa+pg+pj+pk+pl+pp+pq+pr+ps+pu+pw+px+ra+rd+rr+s2+s3+sb+sc+se+si+sk+sl+so+sp+st+tg+tl+wh+xl-spec =
++a+b+bi+bl+bo+bs+bw+by+ca+cd+ch+ci+co+d+e+eb+eg+ei+el+en+er+ex+f+fo+h+i+im+is+it+l+li+lp+ma+mc+ml+n+o+ob+oc+of+oj+on+oo+ot+ou+p+pg+pj+pk+pl+pp+pq+pr+ps+pu+pw+q+r+rd+rr+s+s3+sb+sc+se+si+sk+sl+so+sp+st+tg+u+w+x-spec =
     close
-    μ-ai
-    μ-bb
+    μ-a
+    μ-b
     μ-bi
     μ-bl
     μ-bo
@@ -16928,8 +16928,8 @@ pub +ai+bb+bi+bl+bo+bs+bw+by+ca+cd+ch+ci+co+cs+ea+eb+eg+ei+el+en+er+ex+fi+fo+ic+
     μ-ch
     μ-ci
     μ-co
-    μ-cs
-    μ-ea
+    μ-d
+    μ-e
     μ-eb
     μ-eg
     μ-ei
@@ -16937,21 +16937,21 @@ pub +ai+bb+bi+bl+bo+bs+bw+by+ca+cd+ch+ci+co+cs+ea+eb+eg+ei+el+en+er+ex+fi+fo+ic+
     μ-en
     μ-er
     μ-ex
-    μ-fi
+    μ-f
     μ-fo
-    μ-ic
-    μ-ii
+    μ-h
+    μ-i
     μ-im
     μ-is
     μ-it
-    μ-lc
+    μ-l
     μ-li
     μ-lp
     μ-ma
     μ-mc
     μ-ml
-    μ-ne
-    μ-oa
+    μ-n
+    μ-o
     μ-ob
     μ-oc
     μ-of
@@ -16960,7 +16960,7 @@ pub +ai+bb+bi+bl+bo+bs+bw+by+ca+cd+ch+ci+co+cs+ea+eb+eg+ei+el+en+er+ex+fi+fo+ic+
     μ-oo
     μ-ot
     μ-ou
-    μ-pa
+    μ-p
     μ-pg
     μ-pj
     μ-pk
@@ -16971,11 +16971,11 @@ pub +ai+bb+bi+bl+bo+bs+bw+by+ca+cd+ch+ci+co+cs+ea+eb+eg+ei+el+en+er+ex+fi+fo+ic+
     μ-ps
     μ-pu
     μ-pw
-    μ-px
-    μ-ra
+    μ-q
+    μ-r
     μ-rd
     μ-rr
-    μ-s2
+    μ-s
     μ-s3
     μ-sb
     μ-sc
@@ -16987,10 +16987,10 @@ pub +ai+bb+bi+bl+bo+bs+bw+by+ca+cd+ch+ci+co+cs+ea+eb+eg+ei+el+en+er+ex+fi+fo+ic+
     μ-sp
     μ-st
     μ-tg
-    μ-tl
-    μ-wh
-    μ-xl
-    (λ t. ai-lts.spec (
+    μ-u
+    μ-w
+    μ-x
+    (λ t. a-lts.spec (
       peek-reads.Asked,
       peek-reads.Learnt,
       glued-reads.Asked,
@@ -17000,16 +17000,16 @@ pub +ai+bb+bi+bl+bo+bs+bw+by+ca+cd+ch+ci+co+cs+ea+eb+eg+ei+el+en+er+ex+fi+fo+ic+
       ex-below t,
       ex.Post,
     )
-    (ai-at t)
-    ai.Post
-    (ai-peek-requires t)
-    (ai-glued-requires t)
-    (ai-is-expr-with-requires t)
-    (ai-ex-requires t)
-    (ai-same-length t)
-    (ai-returns t)
-    (ai-returns-2 t))
-    (λ t. bb-lts.spec (
+    (a-at t)
+    a.Post
+    (a-peek-requires t)
+    (a-glued-requires t)
+    (a-is-expr-with-requires t)
+    (a-ex-requires t)
+    (a-same-length t)
+    (a-returns t)
+    (a-returns-2 t))
+    (λ t. b-lts.spec (
       is-below-reads.Asked,
       is-below-reads.Learnt,
       operator-reads.Asked,
@@ -17023,35 +17023,35 @@ pub +ai+bb+bi+bl+bo+bs+bw+by+ca+cd+ch+ci+co+cs+ea+eb+eg+ei+el+en+er+ex+fi+fo+ic+
       from-slice-reads.Asked,
       from-slice-reads.Learnt,
     )
-    (bb-at t)
-    bb.Post
-    bb-Inv-loop
-    bb-μ-loop
-    (bb-loop-holds t)
-    (bb-is-below-requires t)
-    (bb-operator-requires t)
-    (bb-same-length t)
-    (bb-returns t)
-    (bb-rd-requires t)
-    (bb-same-length-2 t)
-    (bb-returns-2 t)
-    (bb-peek-requires t)
-    (bb-peek-second-requires t)
-    (bb-from-slice-requires t)
-    (bb-loop-less t)
-    (bb-loop-again t)
-    (bb-same-length-3 t)
-    (bb-returns-3 t)
-    (bb-same-length-4 t)
-    (bb-returns-4 t))
+    (b-at t)
+    b.Post
+    b-Inv-loop
+    b-μ-loop
+    (b-loop-holds t)
+    (b-is-below-requires t)
+    (b-operator-requires t)
+    (b-same-length t)
+    (b-returns t)
+    (b-rd-requires t)
+    (b-same-length-2 t)
+    (b-returns-2 t)
+    (b-peek-requires t)
+    (b-peek-second-requires t)
+    (b-from-slice-requires t)
+    (b-loop-less t)
+    (b-loop-again t)
+    (b-same-length-3 t)
+    (b-returns-3 t)
+    (b-same-length-4 t)
+    (b-returns-4 t))
     (λ t. bi-lts.spec
-    (refuse-reads.Asked, refuse-reads.Learnt, bb-below t, bb.Post)
+    (refuse-reads.Asked, refuse-reads.Learnt, b-below t, b.Post)
     (bi-at t)
     bi.Post
     (bi-refuse-requires t)
     (bi-returns t)
     (bi-sub-t t)
-    (bi-bb-requires t)
+    (bi-b-requires t)
     (bi-same-length t)
     (bi-returns-2 t))
     (λ t. bl-lts.spec (
@@ -17185,13 +17185,13 @@ pub +ai+bb+bi+bl+bo+bs+bw+by+ca+cd+ch+ci+co+cs+ea+eb+eg+ei+el+en+er+ex+fi+fo+ic+
     (cd-same-length-5 t)
     (cd-returns-5 t))
     (λ t. ch-lts.spec
-    (cs-below t, cs.Post, close-at-reads.Asked, close-at-reads.Learnt)
+    (d-below t, d.Post, close-at-reads.Asked, close-at-reads.Learnt)
     (ch-at t)
     ch.Post
     ch-Inv-loop
     ch-μ-loop
     (ch-loop-holds t)
-    (ch-cs-requires t)
+    (ch-d-requires t)
     (ch-same-length t)
     (ch-returns t)
     (ch-loop-less t)
@@ -17232,7 +17232,7 @@ pub +ai+bb+bi+bl+bo+bs+bw+by+ca+cd+ch+ci+co+cs+ea+eb+eg+ei+el+en+er+ex+fi+fo+ic+
     (co-ex-requires t)
     (co-same-length-2 t)
     (co-returns-2 t))
-    (λ t. cs-lts.spec (
+    (λ t. d-lts.spec (
       flush-ws-reads.Asked,
       flush-ws-reads.Learnt,
       peek-reads.Asked,
@@ -17242,32 +17242,32 @@ pub +ai+bb+bi+bl+bo+bs+bw+by+ca+cd+ch+ci+co+cs+ea+eb+eg+ei+el+en+er+ex+fi+fo+ic+
       finish-reads.Asked,
       finish-reads.Learnt,
     )
-    (cs-at t)
-    cs.Post
-    (cs-flush-ws-requires t)
-    (cs-same-length t)
-    (cs-returns t)
-    (cs-peek-requires t)
-    (cs-li-requires t)
-    (cs-same-length-2 t)
-    (cs-returns-2 t)
-    (cs-same-length-3 t)
-    (cs-returns-3 t)
-    (cs-finish-requires t)
-    (cs-same-length-4 t)
-    (cs-returns-4 t))
-    (λ t. ea-lts.spec
+    (d-at t)
+    d.Post
+    (d-flush-ws-requires t)
+    (d-same-length t)
+    (d-returns t)
+    (d-peek-requires t)
+    (d-li-requires t)
+    (d-same-length-2 t)
+    (d-returns-2 t)
+    (d-same-length-3 t)
+    (d-returns-3 t)
+    (d-finish-requires t)
+    (d-same-length-4 t)
+    (d-returns-4 t))
+    (λ t. e-lts.spec
     (bump-if-reads.Asked, bump-if-reads.Learnt, ex-below t, ex.Post)
-    (ea-at t)
-    ea.Post
-    (ea-bump-if-requires t)
-    (ea-same-length t)
-    (ea-returns t)
-    (ea-ex-requires t)
-    (ea-same-length-2 t)
-    (ea-returns-2 t)
-    (ea-same-length-3 t)
-    (ea-returns-3 t))
+    (e-at t)
+    e.Post
+    (e-bump-if-requires t)
+    (e-same-length t)
+    (e-returns t)
+    (e-ex-requires t)
+    (e-same-length-2 t)
+    (e-returns-2 t)
+    (e-same-length-3 t)
+    (e-returns-3 t))
     (λ t. eb-lts.spec (
       flush-ws-reads.Asked,
       flush-ws-reads.Learnt,
@@ -17420,25 +17420,25 @@ pub +ai+bb+bi+bl+bo+bs+bw+by+ca+cd+ch+ci+co+cs+ea+eb+eg+ei+el+en+er+ex+fi+fo+ic+
     (ex-close-at-requires t)
     (ex-same-length-6 t)
     (ex-returns-6 t))
-    (λ t. fi-lts.spec
+    (λ t. f-lts.spec
     (bump-if-reads.Asked, bump-if-reads.Learnt, ex-below t, ex.Post)
-    (fi-at t)
-    fi.Post
-    (fi-bump-if-requires t)
-    (fi-same-length t)
-    (fi-returns t)
-    (fi-ex-requires t)
-    (fi-same-length-2 t)
-    (fi-returns-2 t)
-    (fi-same-length-3 t)
-    (fi-returns-3 t))
+    (f-at t)
+    f.Post
+    (f-bump-if-requires t)
+    (f-same-length t)
+    (f-returns t)
+    (f-ex-requires t)
+    (f-same-length-2 t)
+    (f-returns-2 t)
+    (f-same-length-3 t)
+    (f-returns-3 t))
     (λ t. fo-lts.spec (
       bump-reads.Asked,
       bump-reads.Learnt,
       pat-reads.Asked,
       pat-reads.Learnt,
-      fi-below t,
-      fi.Post,
+      f-below t,
+      f.Post,
       bl-below t,
       bl.Post,
     )
@@ -17450,13 +17450,13 @@ pub +ai+bb+bi+bl+bo+bs+bw+by+ca+cd+ch+ci+co+cs+ea+eb+eg+ei+el+en+er+ex+fi+fo+ic+
     (fo-pat-requires t)
     (fo-same-length-2 t)
     (fo-returns-2 t)
-    (fo-fi-requires t)
+    (fo-f-requires t)
     (fo-same-length-3 t)
     (fo-returns-3 t)
     (fo-bl-requires t)
     (fo-same-length-4 t)
     (fo-returns-4 t))
-    (λ t. ic-lts.spec (
+    (λ t. h-lts.spec (
       bump-reads.Asked,
       bump-reads.Learnt,
       bump-if-reads.Asked,
@@ -17464,18 +17464,18 @@ pub +ai+bb+bi+bl+bo+bs+bw+by+ca+cd+ch+ci+co+cs+ea+eb+eg+ei+el+en+er+ex+fi+fo+ic+
       ex-below t,
       ex.Post,
     )
-    (ic-at t)
-    ic.Post
-    (ic-bump-requires t)
-    (ic-same-length t)
-    (ic-returns t)
-    (ic-bump-if-requires t)
-    (ic-same-length-2 t)
-    (ic-returns-2 t)
-    (ic-ex-requires t)
-    (ic-same-length-3 t)
-    (ic-returns-3 t))
-    (λ t. ii-lts.spec (
+    (h-at t)
+    h.Post
+    (h-bump-requires t)
+    (h-same-length t)
+    (h-returns t)
+    (h-bump-if-requires t)
+    (h-same-length-2 t)
+    (h-returns-2 t)
+    (h-ex-requires t)
+    (h-same-length-3 t)
+    (h-returns-3 t))
+    (λ t. i-lts.spec (
       bump-reads.Asked,
       bump-reads.Learnt,
       impl-path-reads.Asked,
@@ -17483,17 +17483,17 @@ pub +ai+bb+bi+bl+bo+bs+bw+by+ca+cd+ch+ci+co+cs+ea+eb+eg+ei+el+en+er+ex+fi+fo+ic+
       bl-below t,
       bl.Post,
     )
-    (ii-at t)
-    ii.Post
-    (ii-bump-requires t)
-    (ii-same-length t)
-    (ii-returns t)
-    (ii-impl-path-requires t)
-    (ii-same-length-2 t)
-    (ii-returns-2 t)
-    (ii-bl-requires t)
-    (ii-same-length-3 t)
-    (ii-returns-3 t))
+    (i-at t)
+    i.Post
+    (i-bump-requires t)
+    (i-same-length t)
+    (i-returns t)
+    (i-impl-path-requires t)
+    (i-same-length-2 t)
+    (i-returns-2 t)
+    (i-bl-requires t)
+    (i-same-length-3 t)
+    (i-returns-3 t))
     (λ t. im-lts.spec (
       bump-reads.Asked,
       bump-reads.Learnt,
@@ -17521,10 +17521,10 @@ pub +ai+bb+bi+bl+bo+bs+bw+by+ca+cd+ch+ci+co+cs+ea+eb+eg+ei+el+en+er+ex+fi+fo+ic+
     (im-same-length-5 t)
     (im-returns-5 t))
     (λ t. is-lts.spec
-    (xl-below t, xl.Post, pat-list-reads.Asked, pat-list-reads.Learnt)
+    (x-below t, x.Post, pat-list-reads.Asked, pat-list-reads.Learnt)
     (is-at t)
     is′.Post
-    (is-xl-requires t)
+    (is-x-requires t)
     (is-same-length t)
     (is-returns t)
     (is-pat-list-requires t)
@@ -17559,7 +17559,7 @@ pub +ai+bb+bi+bl+bo+bs+bw+by+ca+cd+ch+ci+co+cs+ea+eb+eg+ei+el+en+er+ex+fi+fo+ic+
     (it-returns-4 t)
     (it-same-length-5 t)
     (it-returns-5 t))
-    (λ t. lc-lts.spec (
+    (λ t. l-lts.spec (
       bump-reads.Asked,
       bump-reads.Learnt,
       pat-reads.Asked,
@@ -17569,20 +17569,20 @@ pub +ai+bb+bi+bl+bo+bs+bw+by+ca+cd+ch+ci+co+cs+ea+eb+eg+ei+el+en+er+ex+fi+fo+ic+
       ex-below t,
       ex.Post,
     )
-    (lc-at t)
-    lc.Post
-    (lc-bump-requires t)
-    (lc-same-length t)
-    (lc-returns t)
-    (lc-pat-requires t)
-    (lc-same-length-2 t)
-    (lc-returns-2 t)
-    (lc-bump-if-requires t)
-    (lc-same-length-3 t)
-    (lc-returns-3 t)
-    (lc-ex-requires t)
-    (lc-same-length-4 t)
-    (lc-returns-4 t))
+    (l-at t)
+    l.Post
+    (l-bump-requires t)
+    (l-same-length t)
+    (l-returns t)
+    (l-pat-requires t)
+    (l-same-length-2 t)
+    (l-returns-2 t)
+    (l-bump-if-requires t)
+    (l-same-length-3 t)
+    (l-returns-3 t)
+    (l-ex-requires t)
+    (l-same-length-4 t)
+    (l-returns-4 t))
     (λ t. li-lts.spec (
       linked-reads.Asked,
       linked-reads.Learnt,
@@ -17673,8 +17673,8 @@ pub +ai+bb+bi+bl+bo+bs+bw+by+ca+cd+ch+ci+co+cs+ea+eb+eg+ei+el+en+er+ex+fi+fo+ic+
       flush-ws-reads.Learnt,
       pat-reads.Asked,
       pat-reads.Learnt,
-      ea-below t,
-      ea.Post,
+      e-below t,
+      e.Post,
       close-at-reads.Asked,
       close-at-reads.Learnt,
     )
@@ -17686,10 +17686,10 @@ pub +ai+bb+bi+bl+bo+bs+bw+by+ca+cd+ch+ci+co+cs+ea+eb+eg+ei+el+en+er+ex+fi+fo+ic+
     (mc-pat-requires t)
     (mc-same-length-2 t)
     (mc-returns-2 t)
-    (mc-ea-requires t)
+    (mc-e-requires t)
     (mc-same-length-3 t)
     (mc-returns-3 t)
-    (mc-ea-requires-2 t)
+    (mc-e-requires-2 t)
     (mc-same-length-4 t)
     (mc-returns-4 t)
     (mc-close-at-requires t)
@@ -17725,20 +17725,20 @@ pub +ai+bb+bi+bl+bo+bs+bw+by+ca+cd+ch+ci+co+cs+ea+eb+eg+ei+el+en+er+ex+fi+fo+ic+
     (ml-loop-again t)
     (ml-same-length-3 t)
     (ml-returns-3 t))
-    (λ t. ne-lts.spec
+    (λ t. n-lts.spec
     (bi-below t, bi.Post, close-at-reads.Asked, close-at-reads.Learnt)
-    (ne-at t)
-    ne.Post
-    (ne-add-bi t)
-    (ne-bi-requires t)
-    (ne-same-length t)
-    (ne-returns t)
-    (ne-close-at-requires t)
-    (ne-same-length-2 t)
-    (ne-returns-2 t)
-    (ne-same-length-3 t)
-    (ne-returns-3 t))
-    (λ t. oa-lts.spec (
+    (n-at t)
+    n.Post
+    (n-add-bi t)
+    (n-bi-requires t)
+    (n-same-length t)
+    (n-returns t)
+    (n-close-at-requires t)
+    (n-same-length-2 t)
+    (n-returns-2 t)
+    (n-same-length-3 t)
+    (n-returns-3 t))
+    (λ t. o-lts.spec (
       close-at-reads.Asked,
       close-at-reads.Learnt,
       bump-reads.Asked,
@@ -17748,20 +17748,20 @@ pub +ai+bb+bi+bl+bo+bs+bw+by+ca+cd+ch+ci+co+cs+ea+eb+eg+ei+el+en+er+ex+fi+fo+ic+
       finish-reads.Asked,
       finish-reads.Learnt,
     )
-    (oa-at t)
-    oa.Post
-    (oa-close-at-requires t)
-    (oa-same-length t)
-    (oa-returns t)
-    (oa-bump-requires t)
-    (oa-same-length-2 t)
-    (oa-returns-2 t)
-    (oa-ex-requires t)
-    (oa-same-length-3 t)
-    (oa-returns-3 t)
-    (oa-finish-requires t)
-    (oa-same-length-4 t)
-    (oa-returns-4 t))
+    (o-at t)
+    o.Post
+    (o-close-at-requires t)
+    (o-same-length t)
+    (o-returns t)
+    (o-bump-requires t)
+    (o-same-length-2 t)
+    (o-returns-2 t)
+    (o-ex-requires t)
+    (o-same-length-3 t)
+    (o-returns-3 t)
+    (o-finish-requires t)
+    (o-same-length-4 t)
+    (o-returns-4 t))
     (λ t. ob-lts.spec (
       flush-ws-reads.Asked,
       flush-ws-reads.Learnt,
@@ -17791,8 +17791,8 @@ pub +ai+bb+bi+bl+bo+bs+bw+by+ca+cd+ch+ci+co+cs+ea+eb+eg+ei+el+en+er+ex+fi+fo+ic+
       ch.Post,
       peek-reads.Asked,
       peek-reads.Learnt,
-      oa-below t,
-      oa.Post,
+      o-below t,
+      o.Post,
       ot-below t,
       ot.Post,
     )
@@ -17802,7 +17802,7 @@ pub +ai+bb+bi+bl+bo+bs+bw+by+ca+cd+ch+ci+co+cs+ea+eb+eg+ei+el+en+er+ex+fi+fo+ic+
     (oc-same-length t)
     (oc-returns t)
     (oc-peek-requires t)
-    (oc-oa-requires t)
+    (oc-o-requires t)
     (oc-same-length-2 t)
     (oc-returns-2 t)
     (oc-ot-requires t)
@@ -17815,8 +17815,8 @@ pub +ai+bb+bi+bl+bo+bs+bw+by+ca+cd+ch+ci+co+cs+ea+eb+eg+ei+el+en+er+ex+fi+fo+ic+
       is-object-key-reads.Learnt,
       bump-reads.Asked,
       bump-reads.Learnt,
-      ea-below t,
-      ea.Post,
+      e-below t,
+      e.Post,
       bump-while-reads.Asked,
       bump-while-reads.Learnt,
     )
@@ -17830,7 +17830,7 @@ pub +ai+bb+bi+bl+bo+bs+bw+by+ca+cd+ch+ci+co+cs+ea+eb+eg+ei+el+en+er+ex+fi+fo+ic+
     (of-bump-requires t)
     (of-same-length t)
     (of-returns t)
-    (of-ea-requires t)
+    (of-e-requires t)
     (of-same-length-2 t)
     (of-returns-2 t)
     (of-bump-while-requires t)
@@ -17914,7 +17914,7 @@ pub +ai+bb+bi+bl+bo+bs+bw+by+ca+cd+ch+ci+co+cs+ea+eb+eg+ei+el+en+er+ex+fi+fo+ic+
     (ou-ob-requires t)
     (ou-same-length t)
     (ou-returns-2 t))
-    (λ t. pa-lts.spec (
+    (λ t. p-lts.spec (
       fo-below t,
       fo.Post,
       finish-reads.Asked,
@@ -17926,45 +17926,45 @@ pub +ai+bb+bi+bl+bo+bs+bw+by+ca+cd+ch+ci+co+cs+ea+eb+eg+ei+el+en+er+ex+fi+fo+ic+
       pl-below t,
       pl.Post,
     )
-    (pa-at t)
-    pa.Post
-    (pa-fo-requires t)
-    (pa-same-length t)
-    (pa-returns t)
-    (pa-finish-requires t)
-    (pa-same-length-2 t)
-    (pa-returns-2 t)
-    (pa-se-requires t)
-    (pa-same-length-3 t)
-    (pa-returns-3 t)
-    (pa-finish-requires-2 t)
-    (pa-same-length-4 t)
-    (pa-returns-4 t)
-    (pa-ma-requires t)
-    (pa-same-length-5 t)
-    (pa-returns-5 t)
-    (pa-finish-requires-3 t)
-    (pa-same-length-6 t)
-    (pa-returns-6 t)
-    (pa-pl-requires t)
-    (pa-same-length-7 t)
-    (pa-returns-7 t))
+    (p-at t)
+    p.Post
+    (p-fo-requires t)
+    (p-same-length t)
+    (p-returns t)
+    (p-finish-requires t)
+    (p-same-length-2 t)
+    (p-returns-2 t)
+    (p-se-requires t)
+    (p-same-length-3 t)
+    (p-returns-3 t)
+    (p-finish-requires-2 t)
+    (p-same-length-4 t)
+    (p-returns-4 t)
+    (p-ma-requires t)
+    (p-same-length-5 t)
+    (p-returns-5 t)
+    (p-finish-requires-3 t)
+    (p-same-length-6 t)
+    (p-returns-6 t)
+    (p-pl-requires t)
+    (p-same-length-7 t)
+    (p-returns-7 t))
     (λ t. pg-lts.spec (
       bump-reads.Asked,
       bump-reads.Learnt,
-      ai-below t,
-      ai.Post,
+      a-below t,
+      a.Post,
       finish-reads.Asked,
       finish-reads.Learnt,
-      pa-below t,
-      pa.Post,
+      p-below t,
+      p.Post,
     )
     (pg-at t)
     pg.Post
     (pg-bump-requires t)
     (pg-same-length t)
     (pg-returns t)
-    (pg-ai-requires t)
+    (pg-a-requires t)
     (pg-same-length-2 t)
     (pg-returns-2 t)
     (pg-finish-requires t)
@@ -17973,13 +17973,13 @@ pub +ai+bb+bi+bl+bo+bs+bw+by+ca+cd+ch+ci+co+cs+ea+eb+eg+ei+el+en+er+ex+fi+fo+ic+
     (pg-bump-requires-2 t)
     (pg-same-length-4 t)
     (pg-returns-4 t)
-    (pg-ai-requires-2 t)
+    (pg-a-requires-2 t)
     (pg-same-length-5 t)
     (pg-returns-5 t)
     (pg-finish-requires-2 t)
     (pg-same-length-6 t)
     (pg-returns-6 t)
-    (pg-pa-requires t)
+    (pg-p-requires t)
     (pg-same-length-7 t)
     (pg-returns-7 t))
     (λ t. pj-lts.spec (
@@ -17987,8 +17987,8 @@ pub +ai+bb+bi+bl+bo+bs+bw+by+ca+cd+ch+ci+co+cs+ea+eb+eg+ei+el+en+er+ex+fi+fo+ic+
       bump-reads.Learnt,
       labels-reads.Asked,
       labels-reads.Learnt,
-      ai-below t,
-      ai.Post,
+      a-below t,
+      a.Post,
       finish-reads.Asked,
       finish-reads.Learnt,
       pg-below t,
@@ -18002,7 +18002,7 @@ pub +ai+bb+bi+bl+bo+bs+bw+by+ca+cd+ch+ci+co+cs+ea+eb+eg+ei+el+en+er+ex+fi+fo+ic+
     (pj-labels-requires t)
     (pj-same-length-2 t)
     (pj-returns-2 t)
-    (pj-ai-requires t)
+    (pj-a-requires t)
     (pj-same-length-3 t)
     (pj-returns-3 t)
     (pj-finish-requires t)
@@ -18069,8 +18069,8 @@ pub +ai+bb+bi+bl+bo+bs+bw+by+ca+cd+ch+ci+co+cs+ea+eb+eg+ei+el+en+er+ex+fi+fo+ic+
     (λ t. pl-lts.spec (
       allows-reads.Asked,
       allows-reads.Learnt,
-      ra-below t,
-      ra.Post,
+      r-below t,
+      r.Post,
       bump-reads.Asked,
       bump-reads.Learnt,
       ou-below t,
@@ -18089,7 +18089,7 @@ pub +ai+bb+bi+bl+bo+bs+bw+by+ca+cd+ch+ci+co+cs+ea+eb+eg+ei+el+en+er+ex+fi+fo+ic+
     (pl-at t)
     pl.Post
     (pl-allows-requires t)
-    (pl-ra-requires t)
+    (pl-r-requires t)
     (pl-same-length t)
     (pl-returns t)
     (pl-allows-requires-2 t)
@@ -18169,8 +18169,8 @@ pub +ai+bb+bi+bl+bo+bs+bw+by+ca+cd+ch+ci+co+cs+ea+eb+eg+ei+el+en+er+ex+fi+fo+ic+
       bw.Post,
       bump-reads.Asked,
       bump-reads.Learnt,
-      px-below t,
-      px.Post,
+      q-below t,
+      q.Post,
     )
     (pq-at t)
     pq.Post
@@ -18192,7 +18192,7 @@ pub +ai+bb+bi+bl+bo+bs+bw+by+ca+cd+ch+ci+co+cs+ea+eb+eg+ei+el+en+er+ex+fi+fo+ic+
     (pq-finish-requires-3 t)
     (pq-same-length-6 t)
     (pq-returns-6 t)
-    (pq-px-requires t)
+    (pq-q-requires t)
     (pq-same-length-7 t)
     (pq-returns-7 t))
     (λ t. pr-lts.spec (
@@ -18278,8 +18278,8 @@ pub +ai+bb+bi+bl+bo+bs+bw+by+ca+cd+ch+ci+co+cs+ea+eb+eg+ei+el+en+er+ex+fi+fo+ic+
       ei.Post,
       finish-reads.Asked,
       finish-reads.Learnt,
-      wh-below t,
-      wh.Post,
+      w-below t,
+      w.Post,
       lp-below t,
       lp.Post,
       pj-below t,
@@ -18293,7 +18293,7 @@ pub +ai+bb+bi+bl+bo+bs+bw+by+ca+cd+ch+ci+co+cs+ea+eb+eg+ei+el+en+er+ex+fi+fo+ic+
     (pw-finish-requires t)
     (pw-same-length-2 t)
     (pw-returns-2 t)
-    (pw-wh-requires t)
+    (pw-w-requires t)
     (pw-same-length-3 t)
     (pw-returns-3 t)
     (pw-finish-requires-2 t)
@@ -18308,7 +18308,7 @@ pub +ai+bb+bi+bl+bo+bs+bw+by+ca+cd+ch+ci+co+cs+ea+eb+eg+ei+el+en+er+ex+fi+fo+ic+
     (pw-pj-requires t)
     (pw-same-length-7 t)
     (pw-returns-7 t))
-    (λ t. px-lts.spec (
+    (λ t. q-lts.spec (
       push-reads.Asked,
       push-reads.Learnt,
       ex-below t,
@@ -18320,30 +18320,30 @@ pub +ai+bb+bi+bl+bo+bs+bw+by+ca+cd+ch+ci+co+cs+ea+eb+eg+ei+el+en+er+ex+fi+fo+ic+
       pu-below t,
       pu.Post,
     )
-    (px-at t)
-    px.Post
-    (px-push-requires t)
-    (px-same-length t)
-    (px-returns t)
-    (px-ex-requires t)
-    (px-same-length-2 t)
-    (px-returns-2 t)
-    (px-finish-requires t)
-    (px-same-length-3 t)
-    (px-returns-3 t)
-    (px-ca-requires t)
-    (px-same-length-4 t)
-    (px-returns-4 t)
-    (px-ex-requires-2 t)
-    (px-same-length-5 t)
-    (px-returns-5 t)
-    (px-finish-requires-2 t)
-    (px-same-length-6 t)
-    (px-returns-6 t)
-    (px-pu-requires t)
-    (px-same-length-7 t)
-    (px-returns-7 t))
-    (λ t. ra-lts.spec (
+    (q-at t)
+    q.Post
+    (q-push-requires t)
+    (q-same-length t)
+    (q-returns t)
+    (q-ex-requires t)
+    (q-same-length-2 t)
+    (q-returns-2 t)
+    (q-finish-requires t)
+    (q-same-length-3 t)
+    (q-returns-3 t)
+    (q-ca-requires t)
+    (q-same-length-4 t)
+    (q-returns-4 t)
+    (q-ex-requires-2 t)
+    (q-same-length-5 t)
+    (q-returns-5 t)
+    (q-finish-requires-2 t)
+    (q-same-length-6 t)
+    (q-returns-6 t)
+    (q-pu-requires t)
+    (q-same-length-7 t)
+    (q-returns-7 t))
+    (λ t. r-lts.spec (
       bump-reads.Asked,
       bump-reads.Learnt,
       peek-reads.Asked,
@@ -18357,23 +18357,23 @@ pub +ai+bb+bi+bl+bo+bs+bw+by+ca+cd+ch+ci+co+cs+ea+eb+eg+ei+el+en+er+ex+fi+fo+ic+
       finish-reads.Asked,
       finish-reads.Learnt,
     )
-    (ra-at t)
-    ra.Post
-    (ra-bump-requires t)
-    (ra-same-length t)
-    (ra-returns t)
-    (ra-peek-requires t)
-    (ra-glued-requires t)
-    (ra-is-expr-with-requires t)
-    (ra-ou-requires t)
-    (ra-same-length-2 t)
-    (ra-returns-2 t)
-    (ra-finish-requires t)
-    (ra-same-length-3 t)
-    (ra-returns-3 t)
-    (ra-finish-requires-2 t)
-    (ra-same-length-4 t)
-    (ra-returns-4 t))
+    (r-at t)
+    r.Post
+    (r-bump-requires t)
+    (r-same-length t)
+    (r-returns t)
+    (r-peek-requires t)
+    (r-glued-requires t)
+    (r-is-expr-with-requires t)
+    (r-ou-requires t)
+    (r-same-length-2 t)
+    (r-returns-2 t)
+    (r-finish-requires t)
+    (r-same-length-3 t)
+    (r-returns-3 t)
+    (r-finish-requires-2 t)
+    (r-same-length-4 t)
+    (r-returns-4 t))
     (λ t. rd-lts.spec (
       flush-ws-reads.Asked,
       flush-ws-reads.Learnt,
@@ -18389,8 +18389,8 @@ pub +ai+bb+bi+bl+bo+bs+bw+by+ca+cd+ch+ci+co+cs+ea+eb+eg+ei+el+en+er+ex+fi+fo+ic+
       is-none-reads.Learnt,
       is-tighter-reads.Asked,
       is-tighter-reads.Learnt,
-      ne-below t,
-      ne.Post,
+      n-below t,
+      n.Post,
       clashes-reads.Asked,
       clashes-reads.Learnt,
       refuse-reads.Asked,
@@ -18414,7 +18414,7 @@ pub +ai+bb+bi+bl+bo+bs+bw+by+ca+cd+ch+ci+co+cs+ea+eb+eg+ei+el+en+er+ex+fi+fo+ic+
     (rd-same-length-3 t)
     (rd-returns-3 t)
     (rd-is-tighter-requires t)
-    (rd-ne-requires t)
+    (rd-n-requires t)
     (rd-same-length-4 t)
     (rd-returns-4 t)
     (rd-peek-requires-2 t)
@@ -18459,49 +18459,49 @@ pub +ai+bb+bi+bl+bo+bs+bw+by+ca+cd+ch+ci+co+cs+ea+eb+eg+ei+el+en+er+ex+fi+fo+ic+
     (rr-finish-requires-2 t)
     (rr-same-length-4 t)
     (rr-returns-4 t))
-    (λ t. s2-lts.spec (
+    (λ t. s-lts.spec (
       it-below t,
       it.Post,
       item-end-reads.Asked,
       item-end-reads.Learnt,
-      ii-below t,
-      ii.Post,
+      i-below t,
+      i.Post,
       im-below t,
       im.Post,
       s3-below t,
       s3.Post,
     )
-    (s2-at t)
-    s2.Post
-    (s2-it-requires t)
-    (s2-same-length t)
-    (s2-returns t)
-    (s2-item-end-requires t)
-    (s2-same-length-2 t)
-    (s2-returns-2 t)
-    (s2-ii-requires t)
-    (s2-same-length-3 t)
-    (s2-returns-3 t)
-    (s2-item-end-requires-2 t)
-    (s2-same-length-4 t)
-    (s2-returns-4 t)
-    (s2-im-requires t)
-    (s2-same-length-5 t)
-    (s2-returns-5 t)
-    (s2-item-end-requires-3 t)
-    (s2-same-length-6 t)
-    (s2-returns-6 t)
-    (s2-item-end-requires-4 t)
-    (s2-same-length-7 t)
-    (s2-returns-7 t)
-    (s2-s3-requires t)
-    (s2-same-length-8 t)
-    (s2-returns-8 t))
+    (s-at t)
+    s.Post
+    (s-it-requires t)
+    (s-same-length t)
+    (s-returns t)
+    (s-item-end-requires t)
+    (s-same-length-2 t)
+    (s-returns-2 t)
+    (s-i-requires t)
+    (s-same-length-3 t)
+    (s-returns-3 t)
+    (s-item-end-requires-2 t)
+    (s-same-length-4 t)
+    (s-returns-4 t)
+    (s-im-requires t)
+    (s-same-length-5 t)
+    (s-returns-5 t)
+    (s-item-end-requires-3 t)
+    (s-same-length-6 t)
+    (s-returns-6 t)
+    (s-item-end-requires-4 t)
+    (s-same-length-7 t)
+    (s-returns-7 t)
+    (s-s3-requires t)
+    (s-same-length-8 t)
+    (s-returns-8 t))
     (λ t. s3-lts.spec (
       allows-reads.Asked,
       allows-reads.Learnt,
-      ic-below t,
-      ic.Post,
+      h-below t,
+      h.Post,
       item-end-reads.Asked,
       item-end-reads.Learnt,
       labels-reads.Asked,
@@ -18512,7 +18512,7 @@ pub +ai+bb+bi+bl+bo+bs+bw+by+ca+cd+ch+ci+co+cs+ea+eb+eg+ei+el+en+er+ex+fi+fo+ic+
     (s3-at t)
     s3.Post
     (s3-allows-requires t)
-    (s3-ic-requires t)
+    (s3-h-requires t)
     (s3-same-length t)
     (s3-returns t)
     (s3-item-end-requires t)
@@ -18559,8 +18559,8 @@ pub +ai+bb+bi+bl+bo+bs+bw+by+ca+cd+ch+ci+co+cs+ea+eb+eg+ei+el+en+er+ex+fi+fo+ic+
       flush-ws-reads.Learnt,
       sp-below t,
       sp.Post,
-      ea-below t,
-      ea.Post,
+      e-below t,
+      e.Post,
       close-at-reads.Asked,
       close-at-reads.Learnt,
     )
@@ -18572,7 +18572,7 @@ pub +ai+bb+bi+bl+bo+bs+bw+by+ca+cd+ch+ci+co+cs+ea+eb+eg+ei+el+en+er+ex+fi+fo+ic+
     (sc-sp-requires t)
     (sc-same-length-2 t)
     (sc-returns-2 t)
-    (sc-ea-requires t)
+    (sc-e-requires t)
     (sc-same-length-3 t)
     (sc-returns-3 t)
     (sc-close-at-requires t)
@@ -18628,8 +18628,8 @@ pub +ai+bb+bi+bl+bo+bs+bw+by+ca+cd+ch+ci+co+cs+ea+eb+eg+ei+el+en+er+ex+fi+fo+ic+
     (si-same-length-3 t)
     (si-returns-3 t))
     (λ t. sk-lts.spec (
-      lc-below t,
-      lc.Post,
+      l-below t,
+      l.Post,
       item-use-reads.Asked,
       item-use-reads.Learnt,
       item-end-reads.Asked,
@@ -18638,12 +18638,12 @@ pub +ai+bb+bi+bl+bo+bs+bw+by+ca+cd+ch+ci+co+cs+ea+eb+eg+ei+el+en+er+ex+fi+fo+ic+
       item-struct-reads.Learnt,
       item-enum-reads.Asked,
       item-enum-reads.Learnt,
-      s2-below t,
-      s2.Post,
+      s-below t,
+      s.Post,
     )
     (sk-at t)
     sk.Post
-    (sk-lc-requires t)
+    (sk-l-requires t)
     (sk-same-length t)
     (sk-returns t)
     (sk-same-length-2 t)
@@ -18666,7 +18666,7 @@ pub +ai+bb+bi+bl+bo+bs+bw+by+ca+cd+ch+ci+co+cs+ea+eb+eg+ei+el+en+er+ex+fi+fo+ic+
     (sk-item-end-requires-3 t)
     (sk-same-length-8 t)
     (sk-returns-8 t)
-    (sk-s2-requires t)
+    (sk-s-requires t)
     (sk-same-length-9 t)
     (sk-returns-9 t))
     (λ t. sl-lts.spec (
@@ -18730,8 +18730,8 @@ pub +ai+bb+bi+bl+bo+bs+bw+by+ca+cd+ch+ci+co+cs+ea+eb+eg+ei+el+en+er+ex+fi+fo+ic+
       bump-reads.Learnt,
       pat-reads.Asked,
       pat-reads.Learnt,
-      ea-below t,
-      ea.Post,
+      e-below t,
+      e.Post,
     )
     (sp-at t)
     sp.Post
@@ -18742,7 +18742,7 @@ pub +ai+bb+bi+bl+bo+bs+bw+by+ca+cd+ch+ci+co+cs+ea+eb+eg+ei+el+en+er+ex+fi+fo+ic+
     (sp-pat-requires t)
     (sp-same-length-2 t)
     (sp-returns-2 t)
-    (sp-ea-requires t)
+    (sp-e-requires t)
     (sp-same-length-3 t)
     (sp-returns-3 t))
     (λ t. st-lts.spec
@@ -18758,8 +18758,8 @@ pub +ai+bb+bi+bl+bo+bs+bw+by+ca+cd+ch+ci+co+cs+ea+eb+eg+ei+el+en+er+ex+fi+fo+ic+
     (λ t. tg-lts.spec (
       bump-reads.Asked,
       bump-reads.Learnt,
-      tl-below t,
-      tl.Post,
+      u-below t,
+      u.Post,
       bump-if-reads.Asked,
       bump-if-reads.Learnt,
     )
@@ -18768,7 +18768,7 @@ pub +ai+bb+bi+bl+bo+bs+bw+by+ca+cd+ch+ci+co+cs+ea+eb+eg+ei+el+en+er+ex+fi+fo+ic+
     (tg-bump-requires t)
     (tg-same-length t)
     (tg-returns t)
-    (tg-tl-requires t)
+    (tg-u-requires t)
     (tg-same-length-2 t)
     (tg-returns-2 t)
     (tg-bump-if-requires t)
@@ -18778,7 +18778,7 @@ pub +ai+bb+bi+bl+bo+bs+bw+by+ca+cd+ch+ci+co+cs+ea+eb+eg+ei+el+en+er+ex+fi+fo+ic+
     (tg-returns-4 t)
     (tg-same-length-5 t)
     (tg-returns-5 t))
-    (λ t. tl-lts.spec (
+    (λ t. u-lts.spec (
       peek-reads.Asked,
       peek-reads.Learnt,
       glued-reads.Asked,
@@ -18790,27 +18790,27 @@ pub +ai+bb+bi+bl+bo+bs+bw+by+ca+cd+ch+ci+co+cs+ea+eb+eg+ei+el+en+er+ex+fi+fo+ic+
       bump-while-reads.Asked,
       bump-while-reads.Learnt,
     )
-    (tl-at t)
-    tl.Post
-    tl-Inv-loop
-    tl-μ-loop
-    (tl-loop-holds t)
-    (tl-peek-requires t)
-    (tl-glued-requires t)
-    (tl-is-expr-with-requires t)
-    (tl-ex-requires t)
-    (tl-same-length t)
-    (tl-returns t)
-    (tl-bump-while-requires t)
-    (tl-same-length-2 t)
-    (tl-returns-2 t)
-    (tl-loop-less t)
-    (tl-loop-again t)
-    (tl-same-length-3 t)
-    (tl-returns-3 t)
-    (tl-same-length-4 t)
-    (tl-returns-4 t))
-    (λ t. wh-lts.spec (
+    (u-at t)
+    u.Post
+    u-Inv-loop
+    u-μ-loop
+    (u-loop-holds t)
+    (u-peek-requires t)
+    (u-glued-requires t)
+    (u-is-expr-with-requires t)
+    (u-ex-requires t)
+    (u-same-length t)
+    (u-returns t)
+    (u-bump-while-requires t)
+    (u-same-length-2 t)
+    (u-returns-2 t)
+    (u-loop-less t)
+    (u-loop-again t)
+    (u-same-length-3 t)
+    (u-returns-3 t)
+    (u-same-length-4 t)
+    (u-returns-4 t))
+    (λ t. w-lts.spec (
       bump-reads.Asked,
       bump-reads.Learnt,
       co-below t,
@@ -18818,18 +18818,18 @@ pub +ai+bb+bi+bl+bo+bs+bw+by+ca+cd+ch+ci+co+cs+ea+eb+eg+ei+el+en+er+ex+fi+fo+ic+
       bl-below t,
       bl.Post,
     )
-    (wh-at t)
-    wh.Post
-    (wh-bump-requires t)
-    (wh-same-length t)
-    (wh-returns t)
-    (wh-co-requires t)
-    (wh-same-length-2 t)
-    (wh-returns-2 t)
-    (wh-bl-requires t)
-    (wh-same-length-3 t)
-    (wh-returns-3 t))
-    λ t. xl-lts.spec (
+    (w-at t)
+    w.Post
+    (w-bump-requires t)
+    (w-same-length t)
+    (w-returns t)
+    (w-co-requires t)
+    (w-same-length-2 t)
+    (w-returns-2 t)
+    (w-bl-requires t)
+    (w-same-length-3 t)
+    (w-returns-3 t))
+    λ t. x-lts.spec (
       peek-reads.Asked,
       peek-reads.Learnt,
       glued-reads.Asked,
@@ -18841,21 +18841,21 @@ pub +ai+bb+bi+bl+bo+bs+bw+by+ca+cd+ch+ci+co+cs+ea+eb+eg+ei+el+en+er+ex+fi+fo+ic+
       bump-while-reads.Asked,
       bump-while-reads.Learnt,
     )
-    (xl-at t)
-    xl.Post
-    xl-Inv-loop
-    xl-μ-loop
-    (xl-loop-holds t)
-    (xl-peek-requires t)
-    (xl-glued-requires t)
-    (xl-is-expr-with-requires t)
-    (xl-ex-requires t)
-    (xl-same-length t)
-    (xl-returns t)
-    (xl-bump-while-requires t)
-    (xl-same-length-2 t)
-    (xl-returns-2 t)
-    (xl-loop-less t)
-    (xl-loop-again t)
-    (xl-same-length-3 t)
-    (xl-returns-3 t)
+    (x-at t)
+    x.Post
+    x-Inv-loop
+    x-μ-loop
+    (x-loop-holds t)
+    (x-peek-requires t)
+    (x-glued-requires t)
+    (x-is-expr-with-requires t)
+    (x-ex-requires t)
+    (x-same-length t)
+    (x-returns t)
+    (x-bump-while-requires t)
+    (x-same-length-2 t)
+    (x-returns-2 t)
+    (x-loop-less t)
+    (x-loop-again t)
+    (x-same-length-3 t)
+    (x-returns-3 t)
