@@ -9,3 +9,4 @@ pub mod Rules
 pub mod Nested
 pub mod Lossless
 pub mod Ends
+pub mod Two
