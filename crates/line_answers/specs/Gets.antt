@@ -1,5 +1,5 @@
--- What a caller of `krosstavel_exprs` gets on an operator line: demand 3 of the code. `krosstavel_exprs` ensures `Answers (parse (exprs separator) kinds lens n limit) n
--- number place rows table`, and from that and the theorem `line` follows all of it.
+-- What a caller of `krosstavel_exprs` gets on an operator line: demand 3 of the code. That call ensures
+-- `Answers (parse (exprs separator) kinds lens n limit) n number place rows table`, and from this and the theorem `line` all of it follows.
 -- Assumes nothing.
 use Prim.Native.Nat.{ℕ, _-_, _*_}
 use mathlib.Core.Path.{_≡_, ap, _∙_}
@@ -51,6 +51,9 @@ unfolding flat elements
 flat-length [] = omega arith
 flat-length (r ∷ l) = omega (arith, flat-length l)
 
+forest-elements : (f : Forest) → length (flat (rows 0 f)) ≡ width * size f
+forest-elements f = flat-length (rows 0 f) ∙ ap (λ (x : ℕ). width * x) (rows-length 0 f)
+
 module _ {n number place count : ℕ} {table : List ℕ} where
   tree : {o : Out (Unit {0})} (f : Forest) → Answers o n number place count table → o ≡ ok tt (st f) → Tree f n number place count table
   unfolding numberOf placeOf rowsOf tableOf st
@@ -59,7 +62,7 @@ module _ {n number place count : ℕ} {table : List ℕ} where
         number-is = a .number-is ∙ ap numberOf e;
         place-is = a .place-is ∙ ap placeOf e;
         rows-are = a .rows-is ∙ ap (λ (x : Out _). length (rowsOf x)) e ∙ rows-length 0 f;
-        table-is = a .table-is ∙ ap (tableOf n) e ∙ ap (λ (x : ℕ). flat (rows 0 f) ++ replicate (n - x) 0) (flat-length (rows 0 f) ∙ ap (λ (x : ℕ). width * x) (rows-length 0 f));
+        table-is = a .table-is ∙ ap (tableOf n) e ∙ ap (λ (x : ℕ). flat (rows 0 f) ++ replicate (n - x) 0) (forest-elements f);
       }
 
   refusal : {o : Out (Unit {0})} {token : ℕ} → Answers o n number place count table → o ≡ refused 7 token → Refusal token n number place count table
@@ -74,7 +77,8 @@ module _ {n number place count : ℕ} {table : List ℕ} where
       }
 
 -- Of any call, with lists that spell a line. All that is asked here of the code is what `krosstavel_exprs` ensures.
-pub gets : {l : Line} {separator n limit number place count : ℕ} {ks ls table : List ℕ} → Call l separator n limit → ks ≡ kinds (spell l) → ls ≡ lens (spell l) →
+pub gets : {l : Line} {separator n limit number place count : ℕ} {ks ls table : List ℕ} →
+    Call l separator n limit → ks ≡ kinds (spell l) → ls ≡ lens (spell l) →
     Answers (Parse.parse (exprs separator) ks ls n limit) n number place count table → Gets l n number place count table
 unfolding parse
 gets {l} {separator} {n} {limit} {number} {place} {count} {ks} {ls} {table} c e f a = of (line l separator n limit c) (rw (e, f) at a)
@@ -89,6 +93,7 @@ gets {l} {separator} {n} {limit} {number} {place} {count} {ks} {ls} {table} c e 
           otherwise = λ none. let k = otherwise h none in (k .0, k .1, k .2);
         }
       where
-        reads : number ≡ 0 → ((g : Links) × Reads (l .rest) g) ⊎ ((before : List Item) × (left : Item) × FirstClash (l .rest) before left) → (g : Links) × Reads (l .rest) g
+        reads : number ≡ 0 → ((g : Links) × Reads (l .rest) g) ⊎ ((before : List Item) × (left : Item) × FirstClash (l .rest) before left) →
+            (g : Links) × Reads (l .rest) g
         reads z (inl r) = r
         reads z (inr k) = absurd (omega (arith, refusal b (h .refuses (k .0) (k .1) (k .2)) .number-is))

@@ -5,8 +5,10 @@ pub mod LineTree
 pub mod LineDemand
 pub mod Grouping
 pub mod Writes
+pub mod LineSizes
 pub mod LineRun
 pub mod LineSpell
 pub mod LineSim
+pub mod LineEntry
 pub mod LineTheorem
 pub mod LineKnown

@@ -1,7 +1,7 @@
 -- The programs of Prog where the state is `st f`: what the forest f has written is in front of what is still to come, `At`. `Runs` is a program's way from one
 -- forest to another, with a law for each construct and each move; for any "these tokens give this tree". Nothing here is about lines.
 -- Assumes nothing.
-use Prim.Native.Nat.{ℕ, suc, _+_, _-_, _*_, _≤_, _<_}
+use Prim.Native.Nat.{ℕ, suc, _+_, _*_, _≤_, _<_}
 use mathlib.Core.Path.{_≡_, refl, ap, subst, sym, _∙_}
 use mathlib.Core.Bool.{Bool, true, false}
 use mathlib.Core.Logic.{_⊎_, inl, inr}
@@ -218,7 +218,8 @@ unfolding leavesAt andThen
 leaves-sim f [] rest a r = rw app-none
 leaves-sim f (t ∷ x) rest a r =
     rw (leaf-sim a (omega arith))
-    (leaves-sim (f ⊕ leaf t none) x rest (at-on (leaf t none) (x ++ rest) a) (rw size-app (omega arith)) ∙ ap (λ (z : Forest). ok tt (st z)) (app-assoc f (leaf t none) (leafs x)))
+    (leaves-sim (f ⊕ leaf t none) x rest (at-on (leaf t none) (x ++ rest) a) (rw size-app (omega arith))
+    ∙ ap (λ (z : Forest). ok tt (st z)) (app-assoc f (leaf t none) (leafs x)))
 
 flush-sim : {c : Job} {f : Forest} (g rest : List Tok) → At c f (g ++ rest) → Gap g → Head Solid rest → size f + length g ≤ c .most →
     flushAt (input c) (st f) ≡ ok tt (st (f ⊕ leafs g))
@@ -263,7 +264,10 @@ close-sim c k f h r =
     (state-path
     (rw (leaves-app, leaves-app, append-nil))
     (rw (bytes-app, bytes-app) (omega arith))
-    (rw (rows-app, rows-app, append-assoc) (ap (λ (x : ℕ). rows 0 f ++ (rows (0 + bytes f) h ++ (record { kind = k; back = size h; start = x; len = bytes h } ∷ []))) (omega arith)))))
+    (rw (rows-app, rows-app, append-assoc) (ap (λ (x : ℕ). rows 0 f ++ (rows (0 + bytes f) h ++ (row x ∷ []))) (omega arith)))))
+  where
+    row : ℕ → Row
+    row b = record { kind = k; back = size h; start = b; len = bytes h }
 
 module _ {c : Job} {d m : ℕ} {f : Forest} where
   -- a checkpoint: its program runs after the pending trivia, under the mark of the rows so far
@@ -311,13 +315,15 @@ pub close-ok : {c : Job} {d : ℕ} (k : ℕ) (f h : Forest) → size (f ⊕ h) <
 unfolding eval
 close-ok {c} k f h r = record { is = close-sim c k f h r }
 
+left-less : {c : Job} (f : Forest) {g : Forest} {rest : List Tok} → At c g rest → length (leaves f) < length (leaves g) →
+    left (input c) (st g) < left (input c) (st f)
+unfolding left st inOf
+left-less f q h = rw kinds-length (omega (arith, count q))
+
 -- a turn that wrote a token is followed by the next
 pub loop-more : {c : Job} {d m : ℕ} {A B : Type 0} {p : A → Prog (A ⊎ B)} {a b : A} {o : Got B} {f g : Forest} {rest : List Tok} →
     At c g rest → length (leaves f) < length (leaves g) →
     Runs c d m (p a) f (got (inl b) g) → Runs c d m (repeat p b) g o → Runs c d m (repeat p a) f o
-unfolding andThen turn guard left st inOf
-loop-more {c = c} {d = d} {m = m} {p = p} {a = a} {f = f} {g = g} q l x y =
-    record { is = rw (unroll (input c) (calls c d) m p a (st f), x .is, lt-ltb (length (kinds (c .toks)) - length (leaves g)) (length (kinds (c .toks)) - length (leaves f)) less) (y .is) }
-  where
-    less : length (kinds (c .toks)) - length (leaves g) < length (kinds (c .toks)) - length (leaves f)
-    less = rw kinds-length (omega (arith, count q))
+unfolding andThen turn guard
+loop-more {c = c} {d = d} {m = m} {p = p} {a = a} {f = f} {g = g} q h x y =
+    record { is = rw (unroll (input c) (calls c d) m p a (st f), x .is, lt-ltb (left (input c) (st g)) (left (input c) (st f)) (left-less f q h)) (y .is) }
