@@ -9,7 +9,7 @@ pub mod check;
 mod drive;
 pub mod edges;
 mod lists;
-// Calls into the archive, and a look at the stack that they used.
+// The proved parser's calls, and a look at the stack that they used.
 #[allow(unsafe_code)]
 pub mod native;
 mod nests;
