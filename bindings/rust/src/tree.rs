@@ -60,11 +60,20 @@ impl fmt::Debug for Tree<'_> {
 }
 
 /// A row of a tree: a node, or a token, which is a leaf.
-#[derive(Clone, Copy, PartialEq, Eq)]
+#[derive(Clone, Copy)]
 pub struct Node<'t> {
     tree: Tree<'t>,
     row: usize,
 }
+
+/// The same row of the same table.
+impl PartialEq for Node<'_> {
+    fn eq(&self, other: &Node<'_>) -> bool {
+        std::ptr::eq(self.tree.rows, other.tree.rows) && self.row == other.row
+    }
+}
+
+impl Eq for Node<'_> {}
 
 impl<'t> Node<'t> {
     /// The row's number, from 0.
