@@ -13,6 +13,7 @@ mod source;
 use std::io::{self, Write};
 use std::process::ExitCode;
 
+use krosstavel::{Refusal, Tree};
 use options::{Options, Output, USAGE};
 use parsed::Parsed;
 
@@ -37,34 +38,41 @@ fn show(options: &Options) -> Result<u8, String> {
     let text = source::read(&options.source)?;
     let mut table = Vec::new();
     let parsed = Parsed::of(options, &text, &mut table);
-    if options.output == Output::Json {
-        print(&json::of(&parsed))?;
-    } else if let Err(refusal) = &parsed.outcome {
-        let message = place::of_refusal(refusal, &text) + &place::of_notes(&parsed.tokens, &text);
-        match options.output {
-            // What a tool reads stays empty.
-            Output::Dot | Output::Svg(_) => eprintln!("{}", message.trim_end()),
-            _ => print(&message)?,
-        }
+    match (&parsed.outcome, &options.output) {
+        (_, Output::Json) => print(&json::of(&parsed))?,
+        (Ok(tree), output) => show_tree(tree, &parsed, output)?,
+        (Err(refusal), output) => show_refusal(refusal, &parsed, output)?,
     }
-    let Ok(tree) = parsed.outcome else {
-        return Ok(REFUSED);
-    };
-    match &options.output {
-        Output::Json => {}
-        Output::Tree { trivia } => {
-            let grouped = grouping::of(&tree, &text);
-            let notes = place::of_notes(&parsed.tokens, &text);
-            print(&(grouped + &draw::tree(&tree, &text, *trivia) + &notes))?;
-        }
-        Output::Rows => print(&draw::rows(&tree, &text))?,
-        Output::Dot => print(&picture::dot(&tree, &text))?,
+    Ok(if parsed.outcome.is_ok() { TREE } else { REFUSED })
+}
+
+fn show_tree(tree: &Tree, parsed: &Parsed, output: &Output) -> Result<(), String> {
+    let text = parsed.text;
+    match output {
+        Output::Rows => print(&draw::rows(tree, text)),
+        Output::Dot => print(&picture::dot(tree, text)),
         Output::Svg(file) => {
-            let written = std::fs::write(file, picture::svg(&tree, &text));
-            written.map_err(|why| format!("{}: {why}", file.display()))?;
+            let written = std::fs::write(file, picture::svg(tree, text));
+            written.map_err(|why| format!("{}: {why}", file.display()))
+        }
+        Output::Tree { .. } | Output::Json => {
+            let trivia = *output == Output::Tree { trivia: true };
+            let notes = place::of_notes(&parsed.tokens, text);
+            print(&(grouping::of(tree, text) + &draw::tree(tree, text, trivia) + &notes))
         }
     }
-    Ok(TREE)
+}
+
+fn show_refusal(refusal: &Refusal, parsed: &Parsed, output: &Output) -> Result<(), String> {
+    let message = place::of_refusal(refusal, parsed.text) + &place::of_notes(&parsed.tokens, parsed.text);
+    match output {
+        // What a tool reads stays empty.
+        Output::Dot | Output::Svg(_) => {
+            eprint!("{message}");
+            Ok(())
+        }
+        _ => print(&message),
+    }
 }
 
 /// Prints a text and ends its last line. A reader that has gone away is no failure.

@@ -32,6 +32,9 @@ what is printed: the grouping and the tree, or
 
 exit status: 0 a tree, 1 a refusal, 2 no answer (usage, or a text that cannot be read)";
 
+/// More elements than any tree takes, and no more memory than there is.
+const MOST_ELEMENTS: u32 = 1 << 24;
+
 /// Where the text comes from.
 pub enum Source {
     Text(OsString),
@@ -58,7 +61,7 @@ pub struct Options {
 
 impl Options {
     /// Reads the arguments after the program's name. `None`: help was asked for.
-    pub fn read(args: impl Iterator<Item = OsString>) -> Result<Option<Options>, String> {
+    pub fn read(mut args: impl Iterator<Item = OsString>) -> Result<Option<Options>, String> {
         let mut options = Options {
             entry: Entry::Exprs(Kind::Comma.into()),
             limit: DEEPEST,
@@ -68,7 +71,6 @@ impl Options {
         };
         let mut separator = None;
         let mut texts = Vec::new();
-        let mut args = args.peekable();
         while let Some(arg) = args.next() {
             match arg.to_str() {
                 Some("--help" | "-h") => return Ok(None),
@@ -92,7 +94,7 @@ impl Options {
             "--root" => self.entry = Entry::Root,
             "--format" => self.entry = Entry::Format,
             "--limit" => self.limit = number(name, &given()?)?,
-            "--elements" => self.elements = Some(number(name, &given()?)?),
+            "--elements" => self.elements = Some(number::<u32>(name, &given()?)?.min(MOST_ELEMENTS) as usize),
             "--trivia" => self.output = Output::Tree { trivia: true },
             "--rows" => self.output = Output::Rows,
             "--json" => self.output = Output::Json,
