@@ -102,3 +102,99 @@ impl Grouping<'_> {
         out
     }
 }
+
+#[cfg(test)]
+mod tests {
+    use super::*;
+    use crate::lexer::Tokens;
+    use krosstavel::{parse_exprs, room};
+
+    /// An operator of each binding of document 01, two where they differ in more than the name, and whether two may follow one another.
+    const OPERATORS: [(&str, u32, bool); 14] = [
+        ("as", 13, false),
+        ("is", 13, false),
+        ("is not", 13, false),
+        ("*", 11, true),
+        ("+", 10, true),
+        ("-", 10, true),
+        ("<<", 9, true),
+        ("&", 8, true),
+        ("^", 7, true),
+        ("|", 6, true),
+        ("==", 5, false),
+        ("<", 5, false),
+        ("&&", 4, true),
+        ("||", 3, true),
+    ];
+
+    /// What a guard is grouped as; none if it is refused.
+    fn shown(text: &str) -> Option<String> {
+        let Tokens { kinds, lens, .. } = Tokens::of(text);
+        let mut table = vec![0; room(kinds.len())];
+        let tree = parse_exprs(&kinds, &lens, &mut table, Kind::Comma, 256).ok()?;
+        let line = of(&tree, text);
+        Some(line.trim_end().strip_prefix("grouped: ")?.to_owned())
+    }
+
+    /// The same by the textbook: operands a, b, .. with the operators from `at` on that bind at least so tightly. Gives the text and whether it is
+    /// an operation.
+    fn climbed(line: &[usize], at: &mut usize, least: u32) -> Option<(String, bool)> {
+        let round = |(text, operation): (String, bool)| if operation { format!("({text})") } else { text };
+        let mut left = (char::from(b'a' + *at as u8).to_string(), false);
+        let mut last = None;
+        while let Some((sign, binding, associative)) = line.get(*at).map(|number| OPERATORS[*number]) {
+            if binding < least {
+                break;
+            }
+            if last == Some(binding) && !associative {
+                return None;
+            }
+            last = Some(binding);
+            *at += 1;
+            let right = climbed(line, at, binding + 1)?;
+            left = (format!("{} {sign} {}", round(left), round(right)), true);
+        }
+        Some(left)
+    }
+
+    /// Every line of four operators, also with parentheses already in it: then grouping changes nothing.
+    #[test]
+    fn as_the_textbook_groups() {
+        let count = OPERATORS.len();
+        let (mut grouped, mut refused) = (0, 0);
+        for number in 0..count.pow(4) {
+            let line: Vec<usize> = (0..4).map(|at| number / count.pow(at) % count).collect();
+            let sign = |at: usize| OPERATORS[line[at]].0;
+            let text = format!("a {} b {} c {} d {} e", sign(0), sign(1), sign(2), sign(3));
+            let want = climbed(&line, &mut 0, 0).map(|(text, _)| text);
+            let got = shown(&text);
+            assert_eq!(got, want, "{text}");
+            match got {
+                Some(got) => {
+                    assert_eq!(shown(&got).as_ref(), Some(&got), "{text}");
+                    grouped += 1;
+                }
+                None => refused += 1,
+            }
+        }
+        assert!(grouped > 10_000 && refused > 1_000, "{grouped} {refused}");
+    }
+
+    #[test]
+    fn other_operations() {
+        for (text, want) in [
+            ("a + b = c", "a + (b = c)"),
+            ("a = b + c = d", "a = (b + (c = d))"),
+            ("a += b", "a += b"),
+            ("x = |y| y + 1", "x = (|y| (y + 1))"),
+            ("a..b + c", "a..(b + c)"),
+            ("!a.b && -c", "!a.b && -c"),
+            ("f(a + b * c)[d+e*f]", "f(a + (b * c))[d + (e * f)]"),
+            ("a /* x */ +\n b // y\n * c", "a + (b * c)"),
+            ("return a + b", "return (a + b)"),
+            ("\"a  b\" == c", "\"a  b\" == c"),
+        ] {
+            assert_eq!(shown(text).as_deref(), Some(want), "{text}");
+        }
+    }
+}
