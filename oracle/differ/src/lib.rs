@@ -10,7 +10,7 @@ mod drive;
 pub mod edges;
 pub mod lines;
 mod lists;
-// Calls into the archive, and a look at the stack that they used.
+// The proved parser's calls, and a look at the stack that they used.
 #[allow(unsafe_code)]
 pub mod native;
 mod nests;

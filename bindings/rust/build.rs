@@ -1,33 +1,38 @@
-//! Links the static archive of the proved crate, named by KROSSTAVEL_ARCHIVE.
+//! Links the static archive of the proved crate: the one that KROSSTAVEL_ARCHIVE names, or else `target/krosstavel.a` of this repository.
 
 use std::env;
 use std::path::{Path, PathBuf};
 
 const NAMED_BY: &str = "KROSSTAVEL_ARCHIVE";
 
+/// Where the gate leaves it, seen from this crate.
+const BESIDE: &str = "../../target/krosstavel.a";
+
 fn main() {
     println!("cargo:rerun-if-env-changed={NAMED_BY}");
     match archive() {
         Ok(archive) => link(&archive),
         Err(why) => {
-            eprintln!("\ndiffer: {why}\n");
+            eprintln!("\nkrosstavel: {why}; `tools/archive OUT.a` makes one\n");
             std::process::exit(1);
         }
     }
 }
 
 fn archive() -> Result<PathBuf, String> {
-    let how = format!(
-        "set {NAMED_BY} to the absolute path of the archive that `tools/archive OUT.a` makes"
-    );
-    let given = env::var_os(NAMED_BY).ok_or_else(|| format!("{NAMED_BY} is not set; {how}"))?;
+    let Some(given) = env::var_os(NAMED_BY) else {
+        let here = env::var_os("CARGO_MANIFEST_DIR").expect("CARGO_MANIFEST_DIR");
+        let path = Path::new(&here).join(BESIDE);
+        println!("cargo:rerun-if-changed={}", path.display());
+        return path.canonicalize().map_err(|why| format!("{NAMED_BY} is not set, and {}: {why}", path.display()));
+    };
     let path = PathBuf::from(given);
     let shown = path.display();
     if !path.is_absolute() {
-        return Err(format!("{NAMED_BY}={shown} is not absolute; {how}"));
+        return Err(format!("{NAMED_BY}={shown} is not an absolute path"));
     }
     if !path.is_file() {
-        return Err(format!("{NAMED_BY}={shown} is not a file; {how}"));
+        return Err(format!("{NAMED_BY}={shown} is not a file"));
     }
     Ok(path)
 }
