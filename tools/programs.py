@@ -184,8 +184,6 @@ def known(head, args, progs):
     if head == 'loop':
         f = args[0].strip('()').split()
         return ('loop', f[0], f[1:], args[1])
-    if head == 'close-root':
-        return ('seq', None, ('call', 'flush', []), ('call', 'close', ['Root']))
     return ('call', head, args)
 
 

@@ -653,6 +653,23 @@ def answers(walk, prefix):
     return out
 
 
+def by_words(places, words):
+    """The clauses of a function that runs no program: its words give each, with @NAME for what is known of the nearest NAME on the way."""
+    out = {}
+    for need, text in words['needs'].items():
+        if need not in places.need:
+            print(f'{words}: no need {need}')
+            continue
+        way = places.way(places.need[need])[::-1]
+
+        def chain(m):
+            back = next(n for n, place in enumerate(way) if m.group(1) in places.fields.get(place, []))
+            return 'c' + ' .before' * back + ' .' + m.group(1)
+        unfold = f"unfolding {words['unfolding']}\n" if need in words.get('unfolds', []) else ''
+        out[need] = (unfold, re.sub(r'@([a-z][a-z0-9-]*)', chain, text))
+    return out
+
+
 def fill(path, found):
     """Puts the clauses into the file, in place of the holes or of what stood there."""
     lines = open(path).read().split('\n')
@@ -829,7 +846,14 @@ def round_of(crate, folder, only, known, defs, words, done):
             key = name.replace('_', '-')
             f, w = known.get(key), words.get(key, {})
             lts = f"{folder}/Rattle.{crate}.proofs/{at.split(f'crates/{crate}/', 1)[1]}/Lts.antt"
-            if not f or not f.rule or f.crate != crate or w.get('by-hand') or only and name not in only or not os.path.exists(lts):
+            if not f or f.crate != crate or w.get('by-hand') or only and name not in only or not os.path.exists(lts):
+                continue
+            if not f.rule and w.get('needs'):
+                fill(path, by_words(Places(lts), w))
+                head(path, HEAD + ''.join(l + '\n' for l in w['use']))
+                done.add(path)
+                fresh += 1
+            if not f.rule:
                 continue
             walk = Walk(f, Places(lts), known, defs, w)
             fill(path, answers(walk, ''))

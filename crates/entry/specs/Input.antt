@@ -14,7 +14,7 @@ use Rattle.definition.specs.Classes.{isToken, isTrivia}
 use Rattle.definition.specs.Tape.{Out, refused, guard}
 use Rattle.definition.specs.Parse.{exprs, isEntry, firstNot, firstOver, admitted}
 use Rattle.laws.specs.Sizes.{total}
-use Rattle.entry.specs.declared.Answer.{Answer}
+use Rattle.entry.specs.declared.Fault.{Fault}
 use Rattle.entry.specs.Round.{Checked}
 
 -- ## The separator
@@ -100,48 +100,47 @@ over-none n (x ∷ l) e = go (leb x n) refl (over-none (n - x) l)
 
 -- ## Refusals 1 to 5
 
-module _ {ks ls : List ℕ} {valid : Bool} {r : Answer} where
+module _ {ks ls : List ℕ} {valid : Bool} {r : Fault} where
   -- a refusal n + 1 at pl, whatever follows
-  refusing : (n pl : ℕ) → ((k : Unit {0} → Out (Unit {0})) → admitted valid ks ls k ≡ refused (suc n) pl) → r ≡ record { number = suc n; place = pl; rows = 0 } → Checked valid ks ls r
+  refusing : (n pl : ℕ) → ((k : Unit {0} → Out (Unit {0})) → admitted valid ks ls k ≡ refused (suc n) pl) → r ≡ record { number = suc n; place = pl } → Checked valid ks ls r
   refusing n pl f q =
       rw q
       record {
         passes = λ z. absurd (omega arith);
         stops = λ z k. f k;
         sized = λ z. absurd (omega arith);
-        no-rows = refl;
       }
 
-  pub refuse-entry : not valid ≡ true → r ≡ record { number = 1; place = 0; rows = 0 } → Checked valid ks ls r
+  pub refuse-entry : not valid ≡ true → r ≡ record { number = 1; place = 0 } → Checked valid ks ls r
   unfolding admitted guard
   refuse-entry v q = refusing 0 0 (λ k. rw (not-true valid v)) q
 
   module _ (v : not valid ≡ false) where
-    pub refuse-pair : (length ks ≡ length ls → ⊥) → r ≡ record { number = 2; place = 0; rows = 0 } → Checked valid ks ls r
+    pub refuse-pair : (length ks ≡ length ls → ⊥) → r ≡ record { number = 2; place = 0 } → Checked valid ks ls r
     unfolding admitted guard
     refuse-pair h q = refusing 1 0 (λ k. rw (not-false valid v, ne-eqb (length ks) (length ls) h)) q
 
     module _ (p : length ks ≡ length ls) where
-      pub refuse-many : 65535 < length ks → r ≡ record { number = 3; place = 0; rows = 0 } → Checked valid ks ls r
+      pub refuse-many : 65535 < length ks → r ≡ record { number = 3; place = 0 } → Checked valid ks ls r
       unfolding admitted guard
       refuse-many h q = refusing 2 0 (λ k. rw (not-false valid v, eq-eqb (length ks) (length ls) p, lt-leb (length ks) 65535 h)) q
 
       module _ (m : length ks ≤ 65535) {bad : ℕ} (e : bad ≡ firstNot isToken ks) where
-        pub refuse-kind : (bad ≡ length ks → ⊥) → r ≡ record { number = 4; place = bad; rows = 0 } → Checked valid ks ls r
+        pub refuse-kind : (bad ≡ length ks → ⊥) → r ≡ record { number = 4; place = bad } → Checked valid ks ls r
         unfolding admitted guard
         refuse-kind h q =
             refusing 3 bad
             (λ k. rw (sym e, not-false valid v, eq-eqb (length ks) (length ls) p, le-leb (length ks) 65535 m, ne-eqb bad (length ks) h)) q
 
         module _ (t : bad ≡ length ks) {over : ℕ} (f : over ≡ firstOver 16777216 ls) where
-          pub refuse-total : (over ≡ length ks → ⊥) → r ≡ record { number = 5; place = over; rows = 0 } → Checked valid ks ls r
+          pub refuse-total : (over ≡ length ks → ⊥) → r ≡ record { number = 5; place = over } → Checked valid ks ls r
           unfolding admitted guard
           refuse-total h q =
               let g : eqb over (length ls) ≡ false = ne-eqb over (length ls) (λ x. h (x ∙ sym p)) in
               refusing 4 over
               (λ k. rw (sym e, sym f, not-false valid v, eq-eqb (length ks) (length ls) p, le-leb (length ks) 65535 m, eq-eqb bad (length ks) t, g)) q
 
-          pub admit : over ≡ length ks → r ≡ record { number = 0; place = 0; rows = 0 } → Checked valid ks ls r
+          pub admit : over ≡ length ks → r ≡ record { number = 0; place = 0 } → Checked valid ks ls r
           unfolding admitted guard
           admit h q =
               let g : eqb over (length ls) ≡ true = eq-eqb over (length ls) (h ∙ p) in
@@ -150,5 +149,4 @@ module _ {ks ls : List ℕ} {valid : Bool} {r : Answer} where
                 passes = λ z k. rw (sym e, sym f, not-false valid v, eq-eqb (length ks) (length ls) p, le-leb (length ks) 65535 m, eq-eqb bad (length ks) t, g);
                 stops = λ z. absurd (z refl);
                 sized = λ z. record { pair = sym p; few = m; small = over-none 16777216 ls (sym f ∙ (h ∙ p)) };
-                no-rows = refl;
               }

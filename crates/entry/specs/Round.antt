@@ -9,14 +9,13 @@ use Rattle.definition.specs.Tape.{Out, refused}
 use Rattle.definition.specs.Parse.{admitted, start}
 use Rattle.tape.specs.View.{stateOf, Sized, Ready}
 use Rattle.tape.specs.declared.Tape.{Tape}
-use Rattle.entry.specs.declared.Answer.{Answer}
+use Rattle.entry.specs.declared.Fault.{Fault}
 
 -- refusals 1 to 5, whatever follows them: number 0 where there is none
-pub record Checked (valid : Bool) (ks ls : List ℕ) (r : Answer) : Type 0 where
+pub record Checked (valid : Bool) (ks ls : List ℕ) (r : Fault) : Type 0 where
   pub passes : r .number ≡ 0 → (k : Unit {0} → Out (Unit {0})) → admitted valid ks ls k ≡ k tt
   pub stops : (r .number ≡ 0 → ⊥) → (k : Unit {0} → Out (Unit {0})) → admitted valid ks ls k ≡ refused (r .number) (r .place)
   pub sized : r .number ≡ 0 → Sized ks ls
-  pub no-rows : r .rows ≡ 0
 
 -- a tape from which a parse starts, over any table
 pub record Starts (limit : ℕ) (t : Tape) (ks ls : List ℕ) : Type 0 where

@@ -8,12 +8,14 @@ use native.Mathlib.Numerals.{add-one}
 use lib.ListN.{length, take, drop, getD, set, replicate, length-set, length-append, length-drop, length-replicate, replicate-append-replicate, take-append-drop}
 use lib.Seq.{drop-cons, drop-length, take-add, length-take-le, append-snoc, getD-drop, set-at}
 use Rattle.definition.specs.Tape.{Row, Out, refused, elements}
-use Rattle.definition.specs.Parse.{flat, numberOf, placeOf, rowsOf, tableOf}
+use Rattle.definition.specs.Parse.{flat, rowsOf, tableOf}
 use Rattle.tape.specs.View.{stateOf, rowAt, rowsIn, outOf}
 use Rattle.tape.specs.Rows.{length-rows}
 use Rattle.tape.specs.Steps.{went-on, stopped}
 use Rattle.tape.specs.declared.Tape.{Tape}
-use Rattle.entry.specs.Promise.{Answers}
+use Rattle.entry.specs.declared.Outcome.{Outcome}
+use Rattle.entry.specs.declared.Outcome.the-variants.{Tree, Refused}
+use Rattle.entry.specs.Promise.{outcomeOf, Ends}
 
 -- ## The table
 
@@ -89,28 +91,26 @@ zeroing-end {tab₀} {tab} {from} {i} v h =
     rw (e, drop-length tab₀) (append-nil (take from tab₀ ++ replicate (length tab₀ - from) 0)) in
     v .is ∙ f
 
--- ## The answer
+-- ## What is left with the caller
 
 -- zeros alone
-pub refused-answers : {o : Out (Unit {0})} {n pl len : ℕ} {tab : List ℕ} → o ≡ refused n pl → tab ≡ replicate len 0 → Answers o len n pl 0 tab
-unfolding numberOf placeOf rowsOf tableOf flat
-refused-answers {len = len} e z =
+pub refused-ends : (n pl len : ℕ) {tab : List ℕ} → tab ≡ replicate len 0 → Ends (refused n pl) len (Refused n pl) tab
+unfolding outcomeOf rowsOf tableOf flat
+refused-ends n pl len z =
     let m : len - 0 ≡ len = omega arith in
-    rw e record { number-is = refl; place-is = refl; rows-is = refl; table-is = rw m z }
+    record { is = refl; table-is = rw m z }
 
 -- the rows, and then zeros
-pub accepted-answers : (t : Tape) (tab : List ℕ) {tab′ : List ℕ} → t .no ≡ 0 → 4 * t .rows ≤ length tab →
-    tab′ ≡ take (4 * t .rows) tab ++ replicate (length tab - 4 * t .rows) 0 → Answers (outOf tt t tab) (length tab) 0 0 (t .rows) tab′
-unfolding numberOf placeOf rowsOf tableOf
-accepted-answers t tab z h e =
+pub accepted-ends : (t : Tape) (tab : List ℕ) {tab′ : List ℕ} → t .no ≡ 0 → 4 * t .rows ≤ length tab →
+    tab′ ≡ take (4 * t .rows) tab ++ replicate (length tab - 4 * t .rows) 0 → Ends (outOf tt t tab) (length tab) (Tree (t .rows)) tab′
+unfolding outcomeOf rowsOf tableOf
+accepted-ends t tab z h e =
     rw (went-on (t .no) (t .place) (tt {0}) (stateOf t tab) z)
     record {
-      number-is = refl;
-      place-is = refl;
-      rows-is = sym (length-rows (t .rows) tab);
+      is = ap Tree (sym (length-rows (t .rows) tab));
       table-is = rw (flat-rows (t .rows) tab h, length-take-le (4 * t .rows) tab h) e;
     }
 
-pub stopped-answers : (t : Tape) (tab : List ℕ) {tab′ : List ℕ} → (t .no ≡ 0 → ⊥) → tab′ ≡ replicate (length tab) 0 →
-    Answers (outOf tt t tab) (length tab) (t .no) (t .place) 0 tab′
-stopped-answers t tab z e = refused-answers (stopped (t .no) (t .place) tt (stateOf t tab) z) e
+pub stopped-ends : (t : Tape) (tab : List ℕ) {r : Outcome} {tab′ : List ℕ} → (t .no ≡ 0 → ⊥) → Ends (refused (t .no) (t .place)) (length tab) r tab′ →
+    Ends (outOf tt t tab) (length tab) r tab′
+stopped-ends t tab z e = rw (stopped (t .no) (t .place) (tt {0}) (stateOf t tab) z) e

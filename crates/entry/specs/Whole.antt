@@ -8,17 +8,17 @@ use native.Mathlib.Omega.{arith}
 use native.Mathlib.Nat.{min-le-left, min-le-right, mul-div-le}
 use lib.ListN.{length, replicate}
 use lib.Seq.{drop-nil}
-use Rattle.definition.specs.Tape.{In, Row, Out, capacity, leavesLen, startOf}
+use Rattle.definition.specs.Tape.{In, Row, Out, refused, capacity, leavesLen, startOf}
 use Rattle.definition.specs.Prog.{Prog}
 use Rattle.definition.specs.Parse.{Entry, program, isLimit, parse, isEntry, admitted, run, start}
 use Rattle.laws.specs.Sizes.{total, Fits}
 use Rattle.tape.specs.View.{inOf, stateOf, rowsIn, outOf, Sized, Begins, Step}
 use Rattle.tape.specs.Rows.{length-rows}
 use Rattle.tape.specs.declared.Tape.{Tape}
-use Rattle.entry.specs.declared.Answer.{Answer}
-use Rattle.entry.specs.Promise.{Answers}
+use Rattle.entry.specs.declared.Outcome.{Outcome}
+use Rattle.entry.specs.declared.Fault.{Fault}
+use Rattle.entry.specs.Promise.{Ends, Parsed}
 use Rattle.entry.specs.Round.{Checked, Starts, Fitting}
-use Rattle.entry.specs.Table.{refused-answers}
 
 -- ## The start
 
@@ -45,7 +45,7 @@ starts {ks = ks} {ls = ls} s b =
       left = b .left;
     }
 
--- ## A call put together
+-- ## A call put together: `valid` is what the code found of limit and entry
 
 -- what `finish` asks, of what a rule ensures
 pub fitting : {A : Type 0} {m : ℕ} {p : Prog A} {a : A} {t r : Tape} {ks ls tab tab′ : List ℕ} → Step m p a t r ks ls tab tab′ → Fitting r tab′
@@ -56,31 +56,17 @@ fitting {r = r} {tab′ = tab′} w =
       few = λ z. omega (arith, w .ready z .fits .rows, length-rows (r .rows) tab′, min-le-right (length tab′ / 4) 4294967295);
     }
 
-module _ {valid : Bool} {ks ls : List ℕ} {a : Answer} (c : Checked valid ks ls a) where
-  -- refused before the parse: `check`'s answer, and a cleared table
-  pub checked-answers : (k : Unit {0} → Out (Unit {0})) {len : ℕ} {tab : List ℕ} → (a .number ≡ 0 → ⊥) → tab ≡ replicate len 0 →
-      Answers (admitted valid ks ls k) len (a .number) (a .place) (a .rows) tab
-  checked-answers k z e = rw (c .no-rows) (refused-answers (c .stops z k) e)
-
-  -- parsed: `finish`'s answer after the program p, from `begin`'s tape
-  pub parsed-answers : {limit number place rows : ℕ} {p : Prog (Unit {0})} {t r : Tape} {tab tab′ tab″ : List ℕ} →
-      a .number ≡ 0 → Starts limit t ks ls → Step 0 p tt t r ks ls tab tab′ → Answers (outOf tt r tab′) (length tab′) number place rows tab″ →
-      Answers (admitted valid ks ls (λ u. run (inOf ks ls tab) limit 0 p start)) (length tab) number place rows tab″
-  parsed-answers {limit} {p = p} {tab = tab} z s w f =
-      rw (c .passes z (λ u. run (inOf ks ls tab) limit 0 p start), sym (s .state tab), sym (s .left), sym (w .is), sym (w .len)) f
-
--- ## The same of an entry, as a public call ensures it: `valid` is what the code found of limit and entry
-
-module _ (e : Entry) (limit : ℕ) {valid : Bool} (v : valid ≡ isLimit limit && isEntry e) {ks ls : List ℕ} {a : Answer} (c : Checked valid ks ls a) (tab : List ℕ) where
+module _ (e : Entry) (limit : ℕ) {valid : Bool} (v : valid ≡ isLimit limit && isEntry e) {ks ls : List ℕ} {f : Fault} (c : Checked valid ks ls f) (tab : List ℕ) where
   parse-is : parse e ks ls (length tab) limit ≡ admitted valid ks ls (λ u. run (inOf ks ls tab) limit 0 (program e) start)
   unfolding parse
   parse-is = rw v
 
-  pub entry-refused : {tab′ : List ℕ} → (a .number ≡ 0 → ⊥) → tab′ ≡ replicate (length tab) 0 →
-      Answers (parse e ks ls (length tab) limit) (length tab) (a .number) (a .place) (a .rows) tab′
-  entry-refused z q = rw parse-is (checked-answers c (λ u. run (inOf ks ls tab) limit 0 (program e) start) z q)
+  -- refused before the parse
+  pub entry-refused : {r : Outcome} {tab′ : List ℕ} → (f .number ≡ 0 → ⊥) → Ends (refused (f .number) (f .place)) (length tab) r tab′ → Parsed e ks ls (length tab) limit r tab′
+  entry-refused z q = rw (parse-is, c .stops z (λ u. run (inOf ks ls tab) limit 0 (program e) start)) q
 
-  pub entry-parsed : {number place rows : ℕ} {t r : Tape} {tab′ tab″ : List ℕ} →
-      a .number ≡ 0 → Starts limit t ks ls → Step 0 (program e) tt t r ks ls tab tab′ → Answers (outOf tt r tab′) (length tab′) number place rows tab″ →
-      Answers (parse e ks ls (length tab) limit) (length tab) number place rows tab″
-  entry-parsed z s w f = rw parse-is (parsed-answers c z s w f)
+  -- parsed: what `finish` gives after the entry's program, from `begin`'s tape
+  pub entry-parsed : {r : Outcome} {t u : Tape} {tab′ tab″ : List ℕ} →
+      f .number ≡ 0 → Starts limit t ks ls → Step 0 (program e) tt t u ks ls tab tab′ → Ends (outOf tt u tab′) (length tab′) r tab″ → Parsed e ks ls (length tab) limit r tab″
+  entry-parsed z s w q =
+      rw (parse-is, c .passes z (λ u. run (inOf ks ls tab) limit 0 (program e) start), sym (s .state tab), sym (s .left), sym (w .is), sym (w .len)) q

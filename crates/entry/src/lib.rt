@@ -5,18 +5,48 @@ ghost use mathlib.Core.List.{_++_};
 ghost use Prim.Native.Nat.{ℕ, _-_, _≤_};
 ghost use lib.ListN.{length, take, replicate};
 ghost use Rattle.definition.specs.Classes.{isToken};
+ghost use Rattle.definition.specs.Tape.{refused};
 ghost use Rattle.definition.specs.Parse.{exprs, isLimit, isEntry, firstNot, firstOver};
 ghost use Rattle.tape.specs.View.{outOf, Sized};
-ghost use Rattle.entry.specs.Promise.{Answers};
+ghost use Rattle.entry.specs.Promise.{number, place, rows, Ends};
 ghost use Rattle.entry.specs.Round.{Checked, Starts, Fitting};
 use tape::Tape;
 
-// What a call answers: 0 and the row count, or a refusal's number and place.
+// What a call ends in.
+pub enum Outcome {
+    Tree { rows: u32 },
+    Refused { number: u32, place: u32 },
+}
+
+// The same for C: number and place are 0 where there is a tree, and rows where there is none.
 #[repr(C)]
 pub struct Answer {
     pub number: u32,
     pub place: u32,
     pub rows: u32,
+}
+
+// What is wrong with an input before it is parsed: a refusal from 1 to 5, or number 0.
+pub struct Fault {
+    pub number: u32,
+    pub place: u32,
+}
+
+pub fn as_numbers(outcome: Outcome) -> Answer
+    ensures { λ r. ⌜ r ≡ record { number = number outcome; place = place outcome; rows = rows outcome } ⌝ }
+{
+    match outcome {
+        Outcome::Tree { rows } => Answer {
+            number: 0,
+            place: 0,
+            rows,
+        },
+        Outcome::Refused { number, place } => Answer {
+            number,
+            place,
+            rows: 0,
+        },
+    }
 }
 
 pub fn is_limit(limit: u32) -> bool
@@ -67,40 +97,39 @@ fn first_over(lens: &[u32]) -> usize
     i
 }
 
-fn refusal(number: u32, place: usize) -> Answer
+fn found(number: u32, place: usize) -> Fault
     requires { ⌜ place ≤ 65535 ⌝ }
-    ensures { λ r. ⌜ r ≡ record { number = number; place = place; rows = 0 } ⌝ }
+    ensures { λ r. ⌜ r ≡ record { number = number; place = place } ⌝ }
 {
-    Answer {
+    Fault {
         number,
         place: place as u32,
-        rows: 0,
     }
 }
 
 // Refusals 1 to 5, in their order; number 0 where the input passes. `valid` says that the limit and the separator are.
-pub fn check(valid: bool, kinds: &[u8], lens: &[u32]) -> Answer
+pub fn check(valid: bool, kinds: &[u8], lens: &[u32]) -> Fault
     ensures { λ r. ⌜ Checked valid (now (kinds .entry)) (now (lens .entry)) r ⌝ }
 {
     if !valid {
-        return refusal(1, 0);
+        return found(1, 0);
     }
     let n = kinds.len();
     if n != lens.len() {
-        return refusal(2, 0);
+        return found(2, 0);
     }
     if n > 65535 {
-        return refusal(3, 0);
+        return found(3, 0);
     }
     let bad = first_not_token(kinds);
     if bad != n {
-        return refusal(4, bad);
+        return found(4, bad);
     }
     let over = first_over(lens);
     if over != n {
-        return refusal(5, over);
+        return found(5, over);
     }
-    refusal(0, 0)
+    found(0, 0)
 }
 
 // The tape before the first token, ready for any table. (The lengths are read only later: here they bound what the tape will count.)
@@ -123,31 +152,30 @@ fn zero_from(table: &mut [u32], from: usize)
     }
 }
 
-// Sets every element to 0: what a refusal leaves.
-pub fn clear(table: &mut [u32])
+// Sets every element to 0.
+fn clear(table: &mut [u32])
     ensures { λ _. ⌜ now (table .exit) ≡ replicate (length (now (table .entry))) 0 ⌝ }
 {
     zero_from(table, 0);
 }
 
-// After the parse: the answer, and the table with its rows and then zeros, or after a refusal with zeros alone.
-pub fn finish(t: Tape, table: &mut [u32]) -> Answer
+// A refusal, and what it leaves: zeros alone.
+pub fn refuse(number: u32, place: u32, table: &mut [u32]) -> Outcome
+    ensures { λ r. ⌜ Ends (refused number place) (length (now (table .entry))) r (now (table .exit)) ⌝ }
+{
+    clear(table);
+    Outcome::Refused { number, place }
+}
+
+// After the parse: the tree, with its rows and then zeros in the table, or the refusal.
+pub fn finish(t: Tape, table: &mut [u32]) -> Outcome
     requires { ⌜ Fitting t (now table) ⌝ }
-    ensures { λ r. ⌜ Answers (outOf tt t (now (table .entry))) (length (now (table .entry))) (r .number) (r .place) (r .rows) (now (table .exit)) ⌝ }
+    ensures { λ r. ⌜ Ends (outOf tt t (now (table .entry))) (length (now (table .entry))) r (now (table .exit)) ⌝ }
 {
     if t.no != 0 {
-        clear(table);
-        return Answer {
-            number: t.no,
-            place: t.place,
-            rows: 0,
-        };
+        return refuse(t.no, t.place, table);
     }
     let rows = t.rows;
     zero_from(table, 4 * rows);
-    Answer {
-        number: 0,
-        place: 0,
-        rows: rows as u32,
-    }
+    Outcome::Tree { rows: rows as u32 }
 }

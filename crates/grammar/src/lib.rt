@@ -1,19 +1,20 @@
 // The rules of grammar.rs that hold expressions, blocks and statements: one cycle of calls, proved equal to the definition together.
-// The toolchain joins the names of a cycle into one file name, so each is two letters. What each is called in the definition (and, with `_` for `-`, in grammar.rs):
+// The toolchain joins the names of a cycle into one file name, which a library holds up to 249 bytes, so each is one or two letters. What each is called in the
+// definition (and, with `_` for `-`, in grammar.rs):
 //
-//   ex expr-with, ou outer-expr-with, ob outer-body, oc outer-chain, oa outer-assign, ot outer-rest
+//   ex expr-with, ou outer-expr-with, ob outer-body, oc outer-chain, o outer-assign, ot outer-rest
 //   oo outer-op, on outer-binary, pr expr-primary, pk primary-kind, pq primary-group, pp primary-path
-//   px primary-prefix, ca closure-arguments, pu primary-unary, pw primary-word, pj primary-jump, pg primary-give
-//   pa primary-block, pl primary-last, ra range-to, ch expr-chain, cs chain-step, li chain-link
-//   ps parenthesized, is items, xl expr-list, eg empty-group, tg expr-tuple-or-group, tl tuple-items
-//   oj expr-object, of object-fields, ea expr-after, ei expr-if, en else-branches, eb else-branch
-//   el else-if, co condition, cd condition-let, ci condition-init, wh expr-while, lp expr-loop
-//   fo expr-for, fi for-in, ma expr-match, ml match-list, mc match-case, se expr-select
-//   sl select-list, sc select-case, sp select-pat, ai expr-if-any, bi expr-binary, bb binary-body
-//   rd operand, ne nest, er expr-range, rr range-rest, bl block, bw block-with
+//   q primary-prefix, ca closure-arguments, pu primary-unary, pw primary-word, pj primary-jump, pg primary-give
+//   p primary-block, pl primary-last, r range-to, ch expr-chain, d chain-step, li chain-link
+//   ps parenthesized, is items, x expr-list, eg empty-group, tg expr-tuple-or-group, u tuple-items
+//   oj expr-object, of object-fields, e expr-after, ei expr-if, en else-branches, eb else-branch
+//   el else-if, co condition, cd condition-let, ci condition-init, w expr-while, lp expr-loop
+//   fo expr-for, f for-in, ma expr-match, ml match-list, mc match-case, se expr-select
+//   sl select-list, sc select-case, sp select-pat, a expr-if-any, bi expr-binary, b binary-body
+//   rd operand, n nest, er expr-range, rr range-rest, bl block, bw block-with
 //   bo block-open, by block-body, bs block-stmts, st stmt, sb stmt-body, so stmt-outer
-//   si stmt-inner, sk stmt-kind, s2 stmt-block, s3 stmt-value, lc local, ic item-const
-//   it item-fn, ii item-impl, im item-mod
+//   si stmt-inner, sk stmt-kind, s stmt-block, s3 stmt-value, l local, h item-const
+//   it item-fn, i item-impl, im item-mod
 //
 // st, ou and bi are counted: the depth that is left falls at each.
 ghost use mathlib.Core.Path.{_≡_};
@@ -238,12 +239,12 @@ fn oc(
     }
     let k = t.ans;
     if t.peek(kinds) == EQ {
-        return oa(t, c, brace, cx, kinds, lens, table);
+        return o(t, c, brace, cx, kinds, lens, table);
     }
     ot(t, c, k, brace, range, binary, cx, kinds, lens, table)
 }
 
-fn oa(
+fn o(
     tape: Tape,
     c: usize,
     brace: bool,
@@ -447,7 +448,7 @@ fn pq(
         }
         return steps::finish(t, c, TEMPLATE, kinds, lens, table);
     }
-    px(tape, c, brace, range, cx, k, g, kinds, lens, table)
+    q(tape, c, brace, range, cx, k, g, kinds, lens, table)
 }
 
 fn pp(tape: Tape, c: usize, brace: bool, kinds: &[u8], lens: &[u32], table: &mut [u32]) -> Tape
@@ -477,7 +478,7 @@ fn pp(tape: Tape, c: usize, brace: bool, kinds: &[u8], lens: &[u32], table: &mut
     t
 }
 
-fn px(
+fn q(
     tape: Tape,
     c: usize,
     brace: bool,
@@ -596,7 +597,7 @@ fn pw(
         return steps::finish(t, c, EXPR_IF, kinds, lens, table);
     }
     if k == WHILE {
-        let t = wh(tape, kinds, lens, table);
+        let t = w(tape, kinds, lens, table);
         if t.no != 0 {
             return t;
         }
@@ -636,7 +637,7 @@ fn pj(
         if t.no != 0 {
             return t;
         }
-        t = ai(t, brace, range, kinds, lens, table);
+        t = a(t, brace, range, kinds, lens, table);
         if t.no != 0 {
             return t;
         }
@@ -676,7 +677,7 @@ fn pg(
         if t.no != 0 {
             return t;
         }
-        t = ai(t, brace, range, kinds, lens, table);
+        t = a(t, brace, range, kinds, lens, table);
         if t.no != 0 {
             return t;
         }
@@ -687,16 +688,16 @@ fn pg(
         if t.no != 0 {
             return t;
         }
-        t = ai(t, brace, range, kinds, lens, table);
+        t = a(t, brace, range, kinds, lens, table);
         if t.no != 0 {
             return t;
         }
         return steps::finish(t, c, EXPR_YIELD, kinds, lens, table);
     }
-    pa(tape, c, brace, range, cx, k, g, kinds, lens, table)
+    p(tape, c, brace, range, cx, k, g, kinds, lens, table)
 }
 
-fn pa(
+fn p(
     tape: Tape,
     c: usize,
     brace: bool,
@@ -751,7 +752,7 @@ fn pl(
     ensures { λ r. ⌜ Step c (primary-last brace range cx k g) (r .ans) tape r (now (kinds .entry)) (now (lens .entry)) (now (table .entry)) (now (table .exit)) ⌝ }
 {
     if kinds::classes::allows(range, DOT_DOT, k) {
-        return ra(tape, c, brace, kinds, lens, table);
+        return r(tape, c, brace, kinds, lens, table);
     }
     if kinds::classes::allows(range, DOT_DOT_EQ, k) {
         let mut t = tape.bump(kinds, lens, table);
@@ -782,7 +783,7 @@ fn pl(
     steps::finish(t, c, ERROR, kinds, lens, table)
 }
 
-fn ra(tape: Tape, c: usize, brace: bool, kinds: &[u8], lens: &[u32], table: &mut [u32]) -> Tape
+fn r(tape: Tape, c: usize, brace: bool, kinds: &[u8], lens: &[u32], table: &mut [u32]) -> Tape
     requires { ⌜ Marked c tape (now table) × Ready tape (now kinds) (now lens) (now table) ⌝ }
     ensures { λ r. ⌜ Step c (range-to brace) (r .ans) tape r (now (kinds .entry)) (now (lens .entry)) (now (table .entry)) (now (table .exit)) ⌝ }
 {
@@ -808,7 +809,7 @@ fn ch(tape: Tape, c: usize, kind: u8, kinds: &[u8], lens: &[u32], table: &mut [u
     let mut last = kind;
     let mut any = false;
     loop {
-        t = cs(t, last, kinds, lens, table);
+        t = d(t, last, kinds, lens, table);
         if t.no != 0 {
             return t;
         }
@@ -831,7 +832,7 @@ fn ch(tape: Tape, c: usize, kind: u8, kinds: &[u8], lens: &[u32], table: &mut [u
     t
 }
 
-fn cs(tape: Tape, kind: u8, kinds: &[u8], lens: &[u32], table: &mut [u32]) -> Tape
+fn d(tape: Tape, kind: u8, kinds: &[u8], lens: &[u32], table: &mut [u32]) -> Tape
     requires { ⌜ Ready tape (now kinds) (now lens) (now table) ⌝ }
     ensures { λ r. ⌜ Ran (chain-step kind) (r .ans) tape r (now (kinds .entry)) (now (lens .entry)) (now (table .entry)) (now (table .exit)) ⌝ }
 {
@@ -917,12 +918,12 @@ fn is(tape: Tape, mode: bool, kinds: &[u8], lens: &[u32], table: &mut [u32]) -> 
     ensures { λ r. ⌜ Ran (items mode) tt tape r (now (kinds .entry)) (now (lens .entry)) (now (table .entry)) (now (table .exit)) ⌝ }
 {
     if mode {
-        return xl(tape, kinds, lens, table);
+        return x(tape, kinds, lens, table);
     }
     pieces::patterns::pat_list(tape, kinds, lens, table)
 }
 
-fn xl(tape: Tape, kinds: &[u8], lens: &[u32], table: &mut [u32]) -> Tape
+fn x(tape: Tape, kinds: &[u8], lens: &[u32], table: &mut [u32]) -> Tape
     requires { ⌜ Ready tape (now kinds) (now lens) (now table) ⌝ }
     ensures { λ r. ⌜ Ran expr-list tt tape r (now (kinds .entry)) (now (lens .entry)) (now (table .entry)) (now (table .exit)) ⌝ }
 {
@@ -968,7 +969,7 @@ fn tg(tape: Tape, kinds: &[u8], lens: &[u32], table: &mut [u32]) -> Tape
     if t.no != 0 {
         return t;
     }
-    t = tl(t, kinds, lens, table);
+    t = u(t, kinds, lens, table);
     if t.no != 0 {
         return t;
     }
@@ -985,7 +986,7 @@ fn tg(tape: Tape, kinds: &[u8], lens: &[u32], table: &mut [u32]) -> Tape
     t
 }
 
-fn tl(tape: Tape, kinds: &[u8], lens: &[u32], table: &mut [u32]) -> Tape
+fn u(tape: Tape, kinds: &[u8], lens: &[u32], table: &mut [u32]) -> Tape
     requires { ⌜ Ready tape (now kinds) (now lens) (now table) ⌝ }
     ensures { λ r. ⌜ Ran tuple-items (said r) tape r (now (kinds .entry)) (now (lens .entry)) (now (table .entry)) (now (table .exit)) ⌝ }
 {
@@ -1035,7 +1036,7 @@ fn of(tape: Tape, kinds: &[u8], lens: &[u32], table: &mut [u32]) -> Tape
         if t.no != 0 {
             return t;
         }
-        t = ea(t, COLON, kinds, lens, table);
+        t = e(t, COLON, kinds, lens, table);
         if t.no != 0 {
             return t;
         }
@@ -1047,7 +1048,7 @@ fn of(tape: Tape, kinds: &[u8], lens: &[u32], table: &mut [u32]) -> Tape
     t
 }
 
-fn ea(tape: Tape, k: u8, kinds: &[u8], lens: &[u32], table: &mut [u32]) -> Tape
+fn e(tape: Tape, k: u8, kinds: &[u8], lens: &[u32], table: &mut [u32]) -> Tape
     requires { ⌜ Ready tape (now kinds) (now lens) (now table) ⌝ }
     ensures { λ r. ⌜ Ran (expr-after k) tt tape r (now (kinds .entry)) (now (lens .entry)) (now (table .entry)) (now (table .exit)) ⌝ }
 {
@@ -1190,7 +1191,7 @@ fn ci(tape: Tape, kinds: &[u8], lens: &[u32], table: &mut [u32]) -> Tape
     t
 }
 
-fn wh(tape: Tape, kinds: &[u8], lens: &[u32], table: &mut [u32]) -> Tape
+fn w(tape: Tape, kinds: &[u8], lens: &[u32], table: &mut [u32]) -> Tape
     requires { ⌜ Ready tape (now kinds) (now lens) (now table) ⌝ }
     ensures { λ r. ⌜ Ran expr-while tt tape r (now (kinds .entry)) (now (lens .entry)) (now (table .entry)) (now (table .exit)) ⌝ }
 {
@@ -1228,14 +1229,14 @@ fn fo(tape: Tape, kinds: &[u8], lens: &[u32], table: &mut [u32]) -> Tape
     if t.no != 0 {
         return t;
     }
-    t = fi(t, kinds, lens, table);
+    t = f(t, kinds, lens, table);
     if t.no != 0 {
         return t;
     }
     bl(t, kinds, lens, table)
 }
 
-fn fi(tape: Tape, kinds: &[u8], lens: &[u32], table: &mut [u32]) -> Tape
+fn f(tape: Tape, kinds: &[u8], lens: &[u32], table: &mut [u32]) -> Tape
     requires { ⌜ Ready tape (now kinds) (now lens) (now table) ⌝ }
     ensures { λ r. ⌜ Ran for-in tt tape r (now (kinds .entry)) (now (lens .entry)) (now (table .entry)) (now (table .exit)) ⌝ }
 {
@@ -1306,11 +1307,11 @@ fn mc(tape: Tape, kinds: &[u8], lens: &[u32], table: &mut [u32]) -> Tape
     if t.no != 0 {
         return t;
     }
-    t = ea(t, IF, kinds, lens, table);
+    t = e(t, IF, kinds, lens, table);
     if t.no != 0 {
         return t;
     }
-    t = ea(t, ROCKET, kinds, lens, table);
+    t = e(t, ROCKET, kinds, lens, table);
     if t.no != 0 {
         return t;
     }
@@ -1370,7 +1371,7 @@ fn sc(tape: Tape, kinds: &[u8], lens: &[u32], table: &mut [u32]) -> Tape
     if t.no != 0 {
         return t;
     }
-    t = ea(t, ROCKET, kinds, lens, table);
+    t = e(t, ROCKET, kinds, lens, table);
     if t.no != 0 {
         return t;
     }
@@ -1388,10 +1389,10 @@ fn sp(tape: Tape, kinds: &[u8], lens: &[u32], table: &mut [u32]) -> Tape
     if t.no != 0 {
         return t;
     }
-    ea(t, EQ, kinds, lens, table)
+    e(t, EQ, kinds, lens, table)
 }
 
-fn ai(tape: Tape, brace: bool, range: bool, kinds: &[u8], lens: &[u32], table: &mut [u32]) -> Tape
+fn a(tape: Tape, brace: bool, range: bool, kinds: &[u8], lens: &[u32], table: &mut [u32]) -> Tape
     requires { ⌜ Ready tape (now kinds) (now lens) (now table) ⌝ }
     ensures { λ r. ⌜ Ran (expr-if-any brace range) tt tape r (now (kinds .entry)) (now (lens .entry)) (now (table .entry)) (now (table .exit)) ⌝ }
 {
@@ -1420,12 +1421,12 @@ fn bi(
     }
     let mut t = tape;
     t.left = left - 1;
-    t = bb(t, op, least, brace, cx, kinds, lens, table);
+    t = b(t, op, least, brace, cx, kinds, lens, table);
     t.left = left;
     t
 }
 
-fn bb(
+fn b(
     tape: Tape,
     op: Op,
     least: u8,
@@ -1492,7 +1493,7 @@ fn rd(
             return t;
         }
         if kinds::operators::is_tighter(op, next) {
-            t = ne(t, c, op, next, brace, cx, kinds, lens, table);
+            t = n(t, c, op, next, brace, cx, kinds, lens, table);
             if t.no != 0 {
                 return t;
             }
@@ -1506,7 +1507,7 @@ fn rd(
     }
 }
 
-fn ne(
+fn n(
     tape: Tape,
     c: usize,
     op: Op,
@@ -1761,7 +1762,7 @@ fn sk(
     ensures { λ r. ⌜ Step c (stmt-kind constant k) (r .ans) tape r (now (kinds .entry)) (now (lens .entry)) (now (table .entry)) (now (table .exit)) ⌝ }
 {
     if k == LET {
-        let mut t = lc(tape, true, kinds, lens, table);
+        let mut t = l(tape, true, kinds, lens, table);
         if t.no != 0 {
             return t;
         }
@@ -1789,10 +1790,10 @@ fn sk(
         }
         return steps::item_end(t, c, ITEM_ENUM, kinds, lens, table);
     }
-    s2(tape, c, constant, k, kinds, lens, table)
+    s(tape, c, constant, k, kinds, lens, table)
 }
 
-fn s2(
+fn s(
     tape: Tape,
     c: usize,
     constant: bool,
@@ -1812,7 +1813,7 @@ fn s2(
         return steps::item_end(t, c, ITEM_FN, kinds, lens, table);
     }
     if k == IMPL {
-        let t = ii(tape, kinds, lens, table);
+        let t = i(tape, kinds, lens, table);
         if t.no != 0 {
             return t;
         }
@@ -1844,7 +1845,7 @@ fn s3(
     ensures { λ r. ⌜ Step c (stmt-value constant k) (r .ans) tape r (now (kinds .entry)) (now (lens .entry)) (now (table .entry)) (now (table .exit)) ⌝ }
 {
     if kinds::classes::allows(constant, IDENT, k) {
-        let t = ic(tape, kinds, lens, table);
+        let t = h(tape, kinds, lens, table);
         if t.no != 0 {
             return t;
         }
@@ -1866,7 +1867,7 @@ fn s3(
     t
 }
 
-fn lc(tape: Tape, cx: bool, kinds: &[u8], lens: &[u32], table: &mut [u32]) -> Tape
+fn l(tape: Tape, cx: bool, kinds: &[u8], lens: &[u32], table: &mut [u32]) -> Tape
     requires { ⌜ Ready tape (now kinds) (now lens) (now table) ⌝ }
     ensures { λ r. ⌜ Ran (local cx) tt tape r (now (kinds .entry)) (now (lens .entry)) (now (table .entry)) (now (table .exit)) ⌝ }
 {
@@ -1885,7 +1886,7 @@ fn lc(tape: Tape, cx: bool, kinds: &[u8], lens: &[u32], table: &mut [u32]) -> Ta
     ex(t, true, true, true, cx, kinds, lens, table)
 }
 
-fn ic(tape: Tape, kinds: &[u8], lens: &[u32], table: &mut [u32]) -> Tape
+fn h(tape: Tape, kinds: &[u8], lens: &[u32], table: &mut [u32]) -> Tape
     requires { ⌜ Ready tape (now kinds) (now lens) (now table) ⌝ }
     ensures { λ r. ⌜ Ran item-const tt tape r (now (kinds .entry)) (now (lens .entry)) (now (table .entry)) (now (table .exit)) ⌝ }
 {
@@ -1922,7 +1923,7 @@ fn it(tape: Tape, kinds: &[u8], lens: &[u32], table: &mut [u32]) -> Tape
     t
 }
 
-fn ii(tape: Tape, kinds: &[u8], lens: &[u32], table: &mut [u32]) -> Tape
+fn i(tape: Tape, kinds: &[u8], lens: &[u32], table: &mut [u32]) -> Tape
     requires { ⌜ Ready tape (now kinds) (now lens) (now table) ⌝ }
     ensures { λ r. ⌜ Ran item-impl tt tape r (now (kinds .entry)) (now (lens .entry)) (now (table .entry)) (now (table .exit)) ⌝ }
 {

@@ -18,7 +18,7 @@ use Rattle.laws.specs.Sizes.{Based}
 use Rattle.tape.specs.View.{stateOf, Marked, Step}
 use Rattle.tape.specs.declared.Tape.{Tape}
 use Rattle.entry.specs.Round.{Checked, Starts}
-use Rattle.entry.specs.declared.Answer.{Answer}
+use Rattle.entry.specs.declared.Fault.{Fault}
 
 pub record Treated (separator k : ℕ) : Type 0 where
   pub is : k ≡ treated separator
@@ -55,7 +55,7 @@ unfolding isEntry
 valid-format limit e = e ∙ with-true (isLimit limit)
 
 -- an input that passes the five tests has a valid limit and entry
-pub checked-valid : {valid : Bool} {ks ls : List ℕ} {a : Answer} → Checked valid ks ls a → a .number ≡ 0 → valid ≡ true
+pub checked-valid : {valid : Bool} {ks ls : List ℕ} {a : Fault} → Checked valid ks ls a → a .number ≡ 0 → valid ≡ true
 unfolding admitted guard
 checked-valid {valid = valid} {ks = ks} {ls = ls} c z = go valid (c .passes z (λ u. ok tt start))
   where

@@ -8,8 +8,9 @@ pub mod bench;
 pub mod check;
 mod drive;
 pub mod edges;
+pub mod lines;
 mod lists;
-// Calls into the archive, and a look at the stack that they used.
+// The proved parser's calls, and a look at the stack that they used.
 #[allow(unsafe_code)]
 pub mod native;
 mod nests;

@@ -2,13 +2,14 @@
 
 use std::process::ExitCode;
 
-use differ::{all, bench, check, edges, run, Done};
+use differ::{all, bench, check, edges, lines, run, Done};
 use oracle::deep;
 
 const USAGE: &str = "\
 usage: differ run --count N [--seed S] [--max-tokens M] [--threads T]
        differ all --length L [--full] [--threads T]
        differ edges
+       differ lines [--count N] [--seed S] [--threads T]
        differ check FILE
        differ bench [--rounds R]";
 
@@ -23,6 +24,7 @@ fn command() -> Done {
         ["run", rest @ ..] => run::command(rest),
         ["all", rest @ ..] => all::command(rest),
         ["edges"] => edges::command(),
+        ["lines", rest @ ..] => lines::command(rest),
         ["check", file] => check::command(file),
         ["bench", rest @ ..] => bench::command(rest),
         _ => Err(USAGE.to_owned()),

@@ -1,49 +1,9 @@
-//! The archive's three functions, and how much stack a call has used. All unsafe
-//! code of this crate is here.
+//! The proved side, with the oracle's types, and how much stack a call has used. All
+//! unsafe code of this crate is here.
 
 use std::hint::black_box;
 
 use oracle::{Answer, Entry};
-
-/// The answer as the archive lays it out.
-#[repr(C)]
-struct Raw {
-    number: u32,
-    place: u32,
-    rows: u32,
-}
-
-// Each lent list is passed as a pointer and then a length.
-extern "C" {
-    fn krosstavel_root(
-        kinds: *const u8,
-        kinds_len: usize,
-        lens: *const u32,
-        lens_len: usize,
-        table: *mut u32,
-        table_len: usize,
-        limit: u32,
-    ) -> Raw;
-    fn krosstavel_exprs(
-        kinds: *const u8,
-        kinds_len: usize,
-        lens: *const u32,
-        lens_len: usize,
-        table: *mut u32,
-        table_len: usize,
-        separator: u32,
-        limit: u32,
-    ) -> Raw;
-    fn krosstavel_format(
-        kinds: *const u8,
-        kinds_len: usize,
-        lens: *const u32,
-        lens_len: usize,
-        table: *mut u32,
-        table_len: usize,
-        limit: u32,
-    ) -> Raw;
-}
 
 /// The proved parse, with the arguments of [`oracle::parse`].
 pub fn parse(
@@ -54,23 +14,20 @@ pub fn parse(
     separator: u32,
     limit: u32,
 ) -> Answer {
-    let (k, kn) = (kinds.as_ptr(), kinds.len());
-    let (l, ln) = (lens.as_ptr(), lens.len());
-    let (t, tn) = (table.as_mut_ptr(), table.len());
-    // SAFETY: each pointer and length are those of one live slice; only the
-    // table is written to, and it is lent exclusively. The functions keep none of
-    // them, ask nothing more of their arguments and do not unwind.
-    let raw = unsafe {
-        match entry {
-            Entry::Root => krosstavel_root(k, kn, l, ln, t, tn, limit),
-            Entry::Exprs => krosstavel_exprs(k, kn, l, ln, t, tn, separator, limit),
-            Entry::Format => krosstavel_format(k, kn, l, ln, t, tn, limit),
-        }
+    let entry = match entry {
+        Entry::Root => krosstavel::Entry::Root,
+        Entry::Exprs => krosstavel::Entry::Exprs(separator),
+        Entry::Format => krosstavel::Entry::Format,
     };
+    let krosstavel::Answer {
+        number,
+        place,
+        rows,
+    } = entry.answer(kinds, lens, table, limit);
     Answer {
-        number: raw.number,
-        place: raw.place,
-        rows: raw.rows,
+        number,
+        place,
+        rows,
     }
 }
 

@@ -24,6 +24,17 @@ fn other_noise(at: usize) -> u32 {
 /// Either side's parse.
 pub type Side = fn(Entry, &[u8], &[u32], &mut [u32], u32, u32) -> Answer;
 
+/// Who says what the answer has to be.
+pub struct Judge {
+    pub name: &'static str,
+    pub parse: Side,
+}
+
+pub const ORACLE: Judge = Judge {
+    name: "oracle",
+    parse: oracle::parse,
+};
+
 /// Puts a case to one side.
 pub fn ask(side: Side, case: &Case, table: &mut [u32]) -> Answer {
     let Case { kinds, lens, .. } = case;
@@ -35,25 +46,32 @@ pub struct Difference {
     pub case: Case,
     /// Each thing that differs.
     pub what: String,
+    /// Who wanted another answer.
+    pub judge: &'static str,
     /// The case with each side's answer, in the oracle's line format.
-    pub oracle_line: String,
+    pub wanted_line: String,
     pub native_line: String,
 }
 
 /// Both sides' tables, kept from case to case.
 #[derive(Default)]
 pub struct Pair {
-    oracle: Vec<u32>,
+    wanted: Vec<u32>,
     native: Vec<u32>,
 }
 
 impl Pair {
     /// Answers a case on both sides. Gives the oracle's answer, and what differs.
     pub fn compare(&mut self, case: &Case) -> (Answer, Option<Difference>) {
-        let want = self.ask_oracle(case);
+        self.compare_with(&ORACLE, case)
+    }
+
+    /// The same where another than the oracle judges.
+    pub fn compare_with(&mut self, judge: &Judge, case: &Case) -> (Answer, Option<Difference>) {
+        let want = self.ask_judge(judge, case);
         let got = self.ask_native(case);
-        let same = want == got && self.oracle == self.native_table() && self.guards_kept();
-        let difference = (!same).then(|| self.difference(case, &want, &got));
+        let same = want == got && self.wanted == self.native_table() && self.guards_kept();
+        let difference = (!same).then(|| self.difference(judge.name, case, &want, &got));
         (want, difference)
     }
 
@@ -63,10 +81,10 @@ impl Pair {
         case.line_with(&got, &tree::rows(self.native_table(), got.rows))
     }
 
-    fn ask_oracle(&mut self, case: &Case) -> Answer {
-        self.oracle.clear();
-        self.oracle.extend((0..case.elements).map(other_noise));
-        ask(oracle::parse, case, &mut self.oracle)
+    fn ask_judge(&mut self, judge: &Judge, case: &Case) -> Answer {
+        self.wanted.clear();
+        self.wanted.extend((0..case.elements).map(other_noise));
+        ask(judge.parse, case, &mut self.wanted)
     }
 
     fn ask_native(&mut self, case: &Case) -> Answer {
@@ -87,9 +105,15 @@ impl Pair {
         outside.all(|at| self.native[at] == noise(at))
     }
 
-    fn difference(&self, case: &Case, want: &Answer, got: &Answer) -> Difference {
-        let mut what = answers(want, got);
-        what += &elements(&self.oracle, self.native_table());
+    fn difference(
+        &self,
+        judge: &'static str,
+        case: &Case,
+        want: &Answer,
+        got: &Answer,
+    ) -> Difference {
+        let mut what = answers(judge, want, got);
+        what += &elements(judge, &self.wanted, self.native_table());
         if !self.guards_kept() {
             what += "  written outside the table\n";
         }
@@ -99,13 +123,14 @@ impl Pair {
         Difference {
             case: case.clone(),
             what,
-            oracle_line: line(want, &self.oracle),
+            judge,
+            wanted_line: line(want, &self.wanted),
             native_line: line(got, self.native_table()),
         }
     }
 }
 
-fn answers(want: &Answer, got: &Answer) -> String {
+fn answers(judge: &str, want: &Answer, got: &Answer) -> String {
     let parts = [
         ("number", want.number, got.number),
         ("place", want.place, got.place),
@@ -114,13 +139,13 @@ fn answers(want: &Answer, got: &Answer) -> String {
     let mut what = String::new();
     for (name, want, got) in parts {
         if want != got {
-            writeln!(what, "  {name}: oracle {want}, krosstavel {got}").unwrap();
+            writeln!(what, "  {name}: {judge} {want}, krosstavel {got}").unwrap();
         }
     }
     what
 }
 
-fn elements(want: &[u32], got: &[u32]) -> String {
+fn elements(judge: &str, want: &[u32], got: &[u32]) -> String {
     let differs = |at: &usize| want[*at] != got[*at];
     let mut differing = (0..want.len()).filter(differs);
     let Some(at) = differing.next() else {
@@ -133,7 +158,7 @@ fn elements(want: &[u32], got: &[u32]) -> String {
         ""
     };
     format!(
-        "  {} elements, the first {at} (row {}, {part}): oracle {}, krosstavel {}{left}\n",
+        "  {} elements, the first {at} (row {}, {part}): {judge} {}, krosstavel {}{left}\n",
         1 + differing.count(),
         at / ROW,
         want[at],
@@ -158,18 +183,20 @@ mod tests {
             place,
             rows,
         };
-        assert_eq!(answers(&WANT, &WANT), "");
-        assert!(answers(&WANT, &got(6, 0, 2)).contains("number: oracle 0, krosstavel 6"));
-        assert!(answers(&WANT, &got(0, 1, 2)).contains("place: oracle 0, krosstavel 1"));
-        assert!(answers(&WANT, &got(0, 0, 3)).contains("rows: oracle 2, krosstavel 3"));
+        assert_eq!(answers("oracle", &WANT, &WANT), "");
+        assert!(answers("oracle", &WANT, &got(6, 0, 2)).contains("number: oracle 0, krosstavel 6"));
+        assert!(answers("oracle", &WANT, &got(0, 1, 2)).contains("place: oracle 0, krosstavel 1"));
+        assert!(answers("oracle", &WANT, &got(0, 0, 3)).contains("rows: oracle 2, krosstavel 3"));
     }
 
     #[test]
     fn elements_left_alone_are_named() {
-        assert_eq!(elements(&[1, 2, 3], &[1, 2, 3]), "");
-        assert!(elements(&[0; 7], &[0, 0, 0, 0, 0, 9, 9]).contains("2 elements, the first 5"));
+        assert_eq!(elements("oracle", &[1, 2, 3], &[1, 2, 3]), "");
+        assert!(
+            elements("oracle", &[0; 7], &[0, 0, 0, 0, 0, 9, 9]).contains("2 elements, the first 5")
+        );
         let stale = [0, noise(1 + GUARD)];
-        assert!(elements(&[0; 2], &stale).contains("left as it was"));
+        assert!(elements("oracle", &[0; 2], &stale).contains("left as it was"));
     }
 
     #[test]

@@ -53,14 +53,14 @@ fn generated(seed: u64, most: usize, cases: u64, pair: &mut Pair, tally: &mut Ta
     }
 }
 
-fn fresh_seed() -> u64 {
+pub fn fresh_seed() -> u64 {
     let since = SystemTime::now().duration_since(UNIX_EPOCH);
     since.map_or(0, |since| since.as_nanos() as u64)
 }
 
 /// A batch's own seed. Neighbours must not be neighbours in the generator's
 /// sequence, so the number is mixed well (the finish of murmur3).
-fn seed_of(seed: u64, batch: u64) -> u64 {
+pub fn seed_of(seed: u64, batch: u64) -> u64 {
     let mut z = seed ^ batch.wrapping_mul(0xd6e8_feb8_6659_fd93);
     z = (z ^ (z >> 33)).wrapping_mul(0xff51_afd7_ed55_8ccd);
     z = (z ^ (z >> 33)).wrapping_mul(0xc4ce_b9fe_1a85_ec53);

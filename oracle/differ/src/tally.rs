@@ -5,7 +5,7 @@ use std::fmt;
 use oracle::case::Case;
 use oracle::Answer;
 
-use crate::pair::{Difference, Pair};
+use crate::pair::{Difference, Judge, Pair, ORACLE};
 use crate::Done;
 
 /// How many differences are shown: the shortest lists of those found.
@@ -14,7 +14,7 @@ const SHOWN: usize = 3;
 /// Longer lines are cut where they are shown: nobody reads on.
 const LONGEST: usize = 2000;
 
-/// Counts of cases by the oracle's number, and of those that differ.
+/// Counts of cases by the number wanted, and of those that differ.
 #[derive(Default)]
 pub struct Tally {
     pub cases: u64,
@@ -26,7 +26,12 @@ pub struct Tally {
 impl Tally {
     /// Answers a case on both sides and counts it. Gives the oracle's answer.
     pub fn try_case(&mut self, pair: &mut Pair, case: &Case) -> Answer {
-        let (answer, difference) = pair.compare(case);
+        self.try_against(&ORACLE, pair, case)
+    }
+
+    /// The same where another than the oracle judges.
+    pub fn try_against(&mut self, judge: &Judge, pair: &mut Pair, case: &Case) -> Answer {
+        let (answer, difference) = pair.compare_with(judge, case);
         self.cases += 1;
         self.by_number[answer.number as usize] += 1;
         if let Some(difference) = difference {
@@ -63,8 +68,8 @@ impl Tally {
         }
         for shown in &self.shown {
             println!("the two sides differ:\n{}", shown.what.trim_end());
-            println!("  oracle     {}", cut(&shown.oracle_line));
-            println!("  krosstavel {}", cut(&shown.native_line));
+            println!("  {:10} {}", shown.judge, cut(&shown.wanted_line));
+            println!("  {:10} {}", "krosstavel", cut(&shown.native_line));
         }
         Err(format!("{} cases differ", self.differing))
     }

@@ -15,7 +15,7 @@ pub mod known;
 mod parse;
 mod program;
 pub mod report;
-mod rng;
+pub mod rng;
 pub mod text;
 pub mod tree;
 pub mod vectors;

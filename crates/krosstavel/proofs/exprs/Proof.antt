@@ -1,152 +1,98 @@
 -- Written by tools/walk.py from the code and its program; docs/CONTRIBUTING.md says how.
 -- Assumes nothing.
-use Prim.Native.Nat.{zero, suc, _+_, _-_, _*_, _≤_, _<_}
-use mathlib.Core.Path.{_≡_, refl, sym, ap, _∙_}
-use mathlib.Core.Bool.{Bool, true, false}
-use mathlib.Core.Logic.{inl, inr}
+use Rattle.definition.specs.Parse.{exprs, program, isLimit}
+use Rattle.entry.specs.Whole.{entry-refused, entry-parsed, fitting}
+use Rattle.krosstavel.specs.Starting.{marked-start, checked-valid, fine, treated-is}
+use mathlib.Core.Path.{sym, _∙_}
 use native.Mathlib.Omega.{arith}
-use borrow.Author.Needs.{needs}
-use borrow.Author.Tests.{eq-eqb, ne-eqb}
-use Rattle.definition.specs.Classes.{isPathComponent, isPat, isPatOrRest, isUsePart, isSelectArm}
-use Rattle.definition.specs.Prog.{repeat}
-use Rattle.definition.specs.Grammar.{bump-while, exprs, not-eof, separated, while, while-turn}
-use Rattle.laws.specs.Progress.{expr-with-further, path-component-some, use-path-some, object-key-some, glues-some, recovering-some}
-use Rattle.kinds.specs.Laws.{not-eof as none-eof, at-eof}
-use Rattle.tape.specs.View.{Step, Ran, said}
-use Rattle.tape.specs.Steps.{Loop, Onward, fuel, burns, here-few, marked-now, step-marked, both, cut, refusal, ends, if-yes, if-no, look, touch, spot, ask, ask-glued, ask-second, ask-second-as, scoped, unscoped, nothing, answered, answered-as, refuses, refused-tape, inv-start, inv-again, inv-end, last, last-cut}
-use Rattle.tape.specs.Counted.{deep, entered, entered-bool, barred, goes-on, goes-some, goes-saw, goes-glued, and-on}
-use Rattle.krosstavel.specs.Starting.{same-step, some-is-some}
 -- ## The skeleton
+use borrow.Author.Needs.{needs}
 use Rattle.krosstavel.proofs.exprs.Statement.{statement}
 use Rattle.krosstavel.proofs.exprs.Tie as tie
 use Rattle.krosstavel.proofs.exprs.Reads as reads
 use Rattle.krosstavel.proofs.exprs.Lts as lts
-use Rattle.grammar.proofs.ex.Reads as ex-reads
-use Rattle.kinds.proofs.classes.is_some.Reads as is-some-reads
-use Rattle.tape.proofs.Tape.bump_while.Reads as bump-while-reads
-use Rattle.tape.proofs.Tape.close_at.Reads as close-at-reads
-use Rattle.tape.proofs.Tape.flush_ws.Reads as flush-ws-reads
-use Rattle.tape.proofs.Tape.peek.Reads as peek-reads
+use Rattle.entry.proofs.begin.Reads as begin-reads
+use Rattle.entry.proofs.check.Reads as check-reads
+use Rattle.entry.proofs.finish.Reads as finish-reads
+use Rattle.entry.proofs.is_limit.Reads as is-limit-reads
+use Rattle.entry.proofs.is_separator.Reads as is-separator-reads
+use Rattle.entry.proofs.refuse.Reads as refuse-reads
+use Rattle.kinds.proofs.classes.treated.Reads as treated-reads
+use Rattle.krosstavel.proofs.exprs_rule.Reads as exprs-rule-reads
 
-abbrev Inv-loop : tie.InvT-loop
-Inv-loop separator k kinds lens table₀ t₀ table t =
-    Loop (while not-eof (separated separator)) (while not-eof (separated separator)) t₀ t kinds lens table₀ table
+-- src/lib.rt:97:9
+is-limit-requires : tie.Need-is-limit-requires
+is-limit-requires c κs = search needs
 
-abbrev μ-loop : tie.MeasureT-loop
-μ-loop separator k kinds lens table₀ t₀ table t =
-    fuel t kinds
+-- src/lib.rt:97:34
+is-separator-requires : tie.Need-is-separator-requires
+is-separator-requires c κs = search needs
 
--- src/lib.rt:38:5
-loop-holds : tie.Need-loop-holds Inv-loop μ-loop
-unfolding exprs while-turn separated
-loop-holds c =
-    record { ready = c .before .before .before .pre .2; under = λ m. inv-start }
+-- src/lib.rt:96:9
+check-requires : tie.Need-check-requires
+check-requires c κs = search needs
 
--- src/lib.rt:38:35
-peek-requires : tie.Need-peek-requires Inv-loop μ-loop
-peek-requires c κs =
-    (c .loop .inv .ready) .looks
+-- src/lib.rt:102:9
+refuse-requires : tie.Need-refuse-requires
+refuse-requires c κs = search needs
 
--- src/lib.rt:38:11
-is-some-requires : tie.Need-is-some-requires Inv-loop μ-loop
-is-some-requires c κs =
-    search needs
+-- src/lib.rt:102:9
+same-length : tie.Need-same-length
+same-length c = search needs
 
--- src/lib.rt:39:9
-ex-requires : tie.Need-ex-requires Inv-loop μ-loop
-ex-requires c κs =
-    c .before .before .before .before .loop .inv .ready
-
--- src/lib.rt:41:13
-same-length : tie.Need-same-length Inv-loop μ-loop
-same-length c =
-    c .before .before .before .before .ex .ensures .under 0 .len ∙ (c .before .before .before .before .before .before .before .before .before .loop .inv .under 0 .len)
-
--- src/lib.rt:41:13
-returns : tie.Need-returns Inv-loop μ-loop
-unfolding exprs while-turn separated
+-- src/lib.rt:102:9
+returns : tie.Need-returns
 returns c =
-    cut {a = tt} (inv-end (c .before .before .before .before .before .before .before .before .before .loop .inv .under _) (last-cut (ask (c .before .before .before .before .before .before .before .before .peek .ensures) (if-yes (sym (c .before .before .before .before .before .before .before .is-some .ensures) ∙ c .before .before .before .before .before .before .if1 .taken) (cut (cut (c .before .before .before .before .ex .ensures .under _) (c .if2 .taken)) (c .if2 .taken)))) (c .if2 .taken))) (c .if2 .taken)
+    entry-refused (exprs (c .before .before .before .before .before .before .before .before .before .before .before .before .args .separator)) (c .before .before .before .before .before .before .before .before .before .before .before .before .args .limit) (rw (c .before .before .before .before .before .before .before .before .is-limit .ensures, c .before .before .before .before .before .before .before .is-separator .ensures)) (c .before .before .before .before .before .before .check .ensures) (c .before .before .before .before .before .before .before .before .before .before .before .before .args .table .now) (c .before .before .before .before .if1 .taken) (c .before .before .refuse .ensures)
 
--- src/lib.rt:43:9
-bump-while-requires : tie.Need-bump-while-requires Inv-loop μ-loop
-bump-while-requires c κs =
-    (omega arith, c .before .before .before .before .before .ex .ensures .under 0 .ready (c .before .if2 .left))
+-- src/lib.rt:104:9
+begin-requires : tie.Need-begin-requires
+begin-requires c κs =
+    c .before .before .check .ensures .sized (c .if1 .left)
 
--- src/lib.rt:45:13
-same-length-2 : tie.Need-same-length-2 Inv-loop μ-loop
-same-length-2 c =
-    c .before .before .before .before .bump-while .ensures .under 0 .len ∙ (c .before .before .before .before .before .before .before .before .before .before .ex .ensures .under 0 .len ∙ (c .before .before .before .before .before .before .before .before .before .before .before .before .before .before .before .loop .inv .under 0 .len))
+-- src/lib.rt:105:13
+cast-s : tie.Need-cast-s
+cast-s c =
+    omega (arith, fine (isLimit (c .before .before .before .before .before .before .before .before .before .args .limit)) (c .before .before .before .before .before .before .before .before .before .args .separator) (sym (rw (c .before .before .before .before .before .is-limit .ensures, c .before .before .before .before .is-separator .ensures)) ∙ checked-valid (c .before .before .before .check .ensures) (c .before .if1 .left)) .small)
 
--- src/lib.rt:45:13
-returns-2 : tie.Need-returns-2 Inv-loop μ-loop
-unfolding exprs while-turn separated
+-- src/lib.rt:106:30
+treated-requires : tie.Need-treated-requires
+treated-requires c κs = search needs
+
+-- src/lib.rt:106:9
+exprs-rule-requires : tie.Need-exprs-rule-requires
+exprs-rule-requires c κs =
+    (marked-start (c .before .before .before .before .before .before .before .before .before .before .before .args .table .now) (c .before .before .begin .ensures), treated-is (fine (isLimit (c .before .before .before .before .before .before .before .before .before .before .before .args .limit)) (c .before .before .before .before .before .before .before .before .before .before .before .args .separator) (sym (rw (c .before .before .before .before .before .before .before .is-limit .ensures, c .before .before .before .before .before .before .is-separator .ensures)) ∙ checked-valid (c .before .before .before .before .before .check .ensures) (c .before .before .before .if1 .left))) (c .before .treated .ensures), c .before .before .begin .ensures .ready (c .before .before .before .before .before .before .before .before .before .before .before .args .table .now))
+
+-- src/lib.rt:107:5
+finish-requires : tie.Need-finish-requires
+finish-requires c κs =
+    fitting (c .before .before .before .exprs-rule .ensures)
+
+-- src/lib.rt:93:1
+same-length-2 : tie.Need-same-length-2
+same-length-2 c = search needs
+
+-- src/lib.rt:93:1
+returns-2 : tie.Need-returns-2
+unfolding program
 returns-2 c =
-    cut {a = tt} (inv-end (c .before .before .before .before .before .before .before .before .before .before .before .before .before .before .before .loop .inv .under _) (last-cut (ask (c .before .before .before .before .before .before .before .before .before .before .before .before .before .before .peek .ensures) (if-yes (sym (c .before .before .before .before .before .before .before .before .before .before .before .before .before .is-some .ensures) ∙ c .before .before .before .before .before .before .before .before .before .before .before .before .if1 .taken) (cut (both (c .before .before .before .before .before .before .before .before .before .before .ex .ensures .under _) (c .before .before .before .before .before .before .if2 .left) (refusal (ends (same-step (ap bump-while (c .before .before .before .before .before .before .before .before .before .before .before .before .before .before .before .before .before .before .before .pre .1 .is)) (c .before .before .before .before .bump-while .ensures .under _))) (c .if3 .taken))) (c .if3 .taken)))) (c .if3 .taken))) (c .if3 .taken)
-
--- src/lib.rt:38:5
-loop-less : tie.Need-loop-less Inv-loop μ-loop
-loop-less c =
-    burns (c .before .before .before .before .bump-while .ensures .under 0 .ready (c .if3 .left)) (and-on (goes-on (c .before .before .before .before .before .before .before .before .before .before .ex .ensures .under 0) (c .before .before .before .before .before .before .if2 .left) (λ i d n s. expr-with-further i d n s _ _ _)) (same-step (ap bump-while (c .before .before .before .before .before .before .before .before .before .before .before .before .before .before .before .before .before .before .before .pre .1 .is)) (c .before .before .before .before .bump-while .ensures .under 0)) (c .if3 .left))
-
--- src/lib.rt:38:5
-loop-again : tie.Need-loop-again Inv-loop μ-loop
-unfolding exprs while-turn separated
-loop-again c =
-    record { ready = c .before .before .before .before .bump-while .ensures .under 0 .ready (c .if3 .left); under = λ m. inv-again (c .before .before .before .before .before .before .before .before .before .before .before .before .before .before .before .loop .inv .under m) (ask (c .before .before .before .before .before .before .before .before .before .before .before .before .before .before .peek .ensures) (if-yes (sym (c .before .before .before .before .before .before .before .before .before .before .before .before .before .is-some .ensures) ∙ c .before .before .before .before .before .before .before .before .before .before .before .before .if1 .taken) (both (both (c .before .before .before .before .before .before .before .before .before .before .ex .ensures .under _) (c .before .before .before .before .before .before .if2 .left) (ends (same-step (ap bump-while (c .before .before .before .before .before .before .before .before .before .before .before .before .before .before .before .before .before .before .before .pre .1 .is)) (c .before .before .before .before .bump-while .ensures .under _)))) (c .if3 .left) (nothing (c .before .before .before .before .bump-while .ensures .under 0 .ready (c .if3 .left)))))) (c .if3 .left) (and-on (goes-on (c .before .before .before .before .before .before .before .before .before .before .ex .ensures .under 0) (c .before .before .before .before .before .before .if2 .left) (λ i d n s. expr-with-further i d n s _ _ _)) (same-step (ap bump-while (c .before .before .before .before .before .before .before .before .before .before .before .before .before .before .before .before .before .before .before .pre .1 .is)) (c .before .before .before .before .bump-while .ensures .under 0)) (c .if3 .left)) }
-
--- src/lib.rt:48:5
-flush-ws-requires : tie.Need-flush-ws-requires Inv-loop μ-loop
-flush-ws-requires c κs =
-    c .before .before .before .before .loop .inv .ready
-
--- src/lib.rt:50:9
-same-length-3 : tie.Need-same-length-3 Inv-loop μ-loop
-same-length-3 c =
-    c .before .before .before .before .flush-ws .ensures .under 0 .len ∙ (c .before .before .before .before .before .before .before .before .before .loop .inv .under 0 .len)
-
--- src/lib.rt:50:9
-returns-3 : tie.Need-returns-3 Inv-loop μ-loop
-unfolding exprs while-turn separated
-returns-3 c =
-    both (inv-end (c .before .before .before .before .before .before .before .before .before .loop .inv .under _) (last (ask (c .before .before .before .before .before .before .before .before .peek .ensures) (if-no (sym (c .before .before .before .before .before .before .before .is-some .ensures) ∙ c .before .before .before .before .before .before .if1 .left) (nothing (c .before .before .before .before .before .before .before .before .before .loop .inv .ready)))) (c .before .before .before .before .before .before .before .before .before .loop .inv .ready .going))) (c .before .before .before .before .before .before .before .before .before .loop .inv .ready .going) (cut (c .before .before .before .before .flush-ws .ensures .under _) (c .if4 .taken))
-
--- src/lib.rt:52:5
-close-at-requires : tie.Need-close-at-requires Inv-loop μ-loop
-close-at-requires c κs =
-    (step-marked (c .before .before .before .before .before .flush-ws .ensures .under _) (c .before .if4 .left) (c .before .before .before .before .before .before .before .before .before .before .loop .inv .under _ .marked (c .before .before .before .before .before .before .before .before .before .before .before .before .before .before .pre .0)), c .before .before .before .before .before .flush-ws .ensures .under 0 .ready (c .before .if4 .left))
-
--- src/lib.rt:33:1
-same-length-4 : tie.Need-same-length-4 Inv-loop μ-loop
-same-length-4 c =
-    c .before .before .close-at .ensures .len ∙ (c .before .before .before .before .before .before .before .before .flush-ws .ensures .under 0 .len ∙ (c .before .before .before .before .before .before .before .before .before .before .before .before .before .loop .inv .under 0 .len))
-
--- src/lib.rt:33:1
-returns-4 : tie.Need-returns-4 Inv-loop μ-loop
-unfolding exprs while-turn separated
-returns-4 c =
-    both (inv-end (c .before .before .before .before .before .before .before .before .before .before .before .before .before .loop .inv .under _) (last (ask (c .before .before .before .before .before .before .before .before .before .before .before .before .peek .ensures) (if-no (sym (c .before .before .before .before .before .before .before .before .before .before .before .is-some .ensures) ∙ c .before .before .before .before .before .before .before .before .before .before .if1 .left) (nothing (c .before .before .before .before .before .before .before .before .before .before .before .before .before .loop .inv .ready)))) (c .before .before .before .before .before .before .before .before .before .before .before .before .before .loop .inv .ready .going))) (c .before .before .before .before .before .before .before .before .before .before .before .before .before .loop .inv .ready .going) (both (c .before .before .before .before .before .before .before .before .flush-ws .ensures .under _) (c .before .before .before .before .if4 .left) (c .before .before .close-at .ensures))
+    entry-parsed (exprs (c .before .before .before .before .before .before .before .before .before .before .before .before .before .before .before .before .before .before .args .separator)) (c .before .before .before .before .before .before .before .before .before .before .before .before .before .before .before .before .before .before .args .limit) (rw (c .before .before .before .before .before .before .before .before .before .before .before .before .before .before .is-limit .ensures, c .before .before .before .before .before .before .before .before .before .before .before .before .before .is-separator .ensures)) (c .before .before .before .before .before .before .before .before .before .before .before .before .check .ensures) (c .before .before .before .before .before .before .before .before .before .before .before .before .before .before .before .before .before .before .args .table .now) (c .before .before .before .before .before .before .before .before .before .before .if1 .left) (c .before .before .before .before .before .before .before .before .before .begin .ensures) (c .before .before .before .before .before .before .exprs-rule .ensures) (c .before .before .finish .ensures)
 
 pub exprs-spec : {M : Type 1} → statement M
 exprs-spec =
     tie.close
     (tie.spec
-    Inv-loop
-    μ-loop
-    loop-holds
-    peek-requires
-    is-some-requires
-    ex-requires
+    is-limit-requires
+    is-separator-requires
+    check-requires
+    refuse-requires
     same-length
     returns
-    bump-while-requires
+    begin-requires
+    cast-s
+    treated-requires
+    exprs-rule-requires
+    finish-requires
     same-length-2
-    returns-2
-    loop-less
-    loop-again
-    flush-ws-requires
-    same-length-3
-    returns-3
-    close-at-requires
-    same-length-4
-    returns-4)
+    returns-2)

@@ -1,153 +1,78 @@
 -- Written by tools/walk.py from the code and its program; docs/CONTRIBUTING.md says how.
 -- Assumes nothing.
-use Prim.Native.Nat.{zero, suc, _+_, _-_, _*_, _≤_, _<_}
-use mathlib.Core.Path.{_≡_, refl, sym, ap, _∙_}
-use mathlib.Core.Bool.{Bool, true, false}
-use mathlib.Core.Logic.{inl, inr}
-use native.Mathlib.Omega.{arith}
-use borrow.Author.Needs.{needs}
-use borrow.Author.Tests.{eq-eqb, ne-eqb}
-use Rattle.definition.specs.Classes.{isPathComponent, isPat, isPatOrRest, isUsePart, isSelectArm}
-use Rattle.definition.specs.Prog.{repeat}
-use Rattle.definition.specs.Grammar.{format, not-eof, while, while-turn}
-use Rattle.laws.specs.Progress.{bump-further, path-component-some, use-path-some, object-key-some, glues-some, recovering-some}
-use Rattle.kinds.specs.Laws.{not-eof as none-eof, at-eof}
-use Rattle.tape.specs.View.{Step, Ran, said}
-use Rattle.tape.specs.Steps.{Loop, Onward, fuel, burns, here-few, marked-now, step-marked, both, cut, refusal, ends, if-yes, if-no, look, touch, spot, ask, ask-glued, ask-second, ask-second-as, scoped, unscoped, nothing, answered, answered-as, refuses, refused-tape, inv-start, inv-again, inv-end, last, last-cut}
-use Rattle.tape.specs.Counted.{deep, entered, entered-bool, barred, goes-on, goes-some, goes-saw, goes-glued, and-on}
-use Rattle.definition.specs.Prog.{bump}
-use Rattle.krosstavel.specs.Starting.{same-step, some-is-some}
+use Rattle.definition.specs.Parse.{format, program, isLimit}
+use Rattle.entry.specs.Whole.{entry-refused, entry-parsed, fitting}
+use Rattle.krosstavel.specs.Starting.{marked-start, valid-format}
 -- ## The skeleton
+use borrow.Author.Needs.{needs}
 use Rattle.krosstavel.proofs.format.Statement.{statement}
 use Rattle.krosstavel.proofs.format.Tie as tie
 use Rattle.krosstavel.proofs.format.Reads as reads
 use Rattle.krosstavel.proofs.format.Lts as lts
-use Rattle.grammar.proofs.ex.Reads as ex-reads
-use Rattle.kinds.proofs.classes.is_some.Reads as is-some-reads
-use Rattle.tape.proofs.Tape.bump.Reads as bump-reads
-use Rattle.tape.proofs.Tape.close_at.Reads as close-at-reads
-use Rattle.tape.proofs.Tape.flush_ws.Reads as flush-ws-reads
-use Rattle.tape.proofs.Tape.peek.Reads as peek-reads
+use Rattle.entry.proofs.begin.Reads as begin-reads
+use Rattle.entry.proofs.check.Reads as check-reads
+use Rattle.entry.proofs.finish.Reads as finish-reads
+use Rattle.entry.proofs.is_limit.Reads as is-limit-reads
+use Rattle.entry.proofs.refuse.Reads as refuse-reads
+use Rattle.krosstavel.proofs.format_rule.Reads as format-rule-reads
 
-abbrev Inv-loop : tie.InvT-loop
-Inv-loop kinds lens table₀ t₀ table t =
-    Loop (while not-eof bump) (while not-eof bump) t₀ t kinds lens table₀ table
+-- src/lib.rt:114:26
+is-limit-requires : tie.Need-is-limit-requires
+is-limit-requires c κs = search needs
 
-abbrev μ-loop : tie.MeasureT-loop
-μ-loop kinds lens table₀ t₀ table t =
-    fuel t kinds
+-- src/lib.rt:114:9
+check-requires : tie.Need-check-requires
+check-requires c κs = search needs
 
--- src/lib.rt:60:9
-ex-requires : tie.Need-ex-requires Inv-loop μ-loop
-ex-requires c κs =
-    c .before .before .before .before .pre .1
+-- src/lib.rt:116:9
+refuse-requires : tie.Need-refuse-requires
+refuse-requires c κs = search needs
 
--- src/lib.rt:62:9
-same-length : tie.Need-same-length Inv-loop μ-loop
-same-length c =
-    c .before .before .before .before .ex .ensures .under 0 .len
+-- src/lib.rt:116:9
+same-length : tie.Need-same-length
+same-length c = search needs
 
--- src/lib.rt:62:9
-returns : tie.Need-returns Inv-loop μ-loop
-unfolding format while-turn
+-- src/lib.rt:116:9
+returns : tie.Need-returns
 returns c =
-    cut (c .before .before .before .before .ex .ensures .under _) (c .if1 .taken)
+    entry-refused (format) (c .before .before .before .before .before .before .before .before .before .before .before .args .limit) (valid-format (c .before .before .before .before .before .before .before .before .before .before .before .args .limit) (c .before .before .before .before .before .before .before .is-limit .ensures)) (c .before .before .before .before .before .before .check .ensures) (c .before .before .before .before .before .before .before .before .before .before .before .args .table .now) (c .before .before .before .before .if1 .taken) (c .before .before .refuse .ensures)
 
--- src/lib.rt:64:5
-loop-holds : tie.Need-loop-holds Inv-loop μ-loop
-unfolding format while-turn
-loop-holds c =
-    record { ready = c .before .before .before .before .ex .ensures .under 0 .ready (c .if1 .left); under = λ m. inv-start }
+-- src/lib.rt:118:9
+begin-requires : tie.Need-begin-requires
+begin-requires c κs =
+    c .before .before .check .ensures .sized (c .if1 .left)
 
--- src/lib.rt:64:35
-peek-requires : tie.Need-peek-requires Inv-loop μ-loop
-peek-requires c κs =
-    (c .loop .inv .ready) .looks
+-- src/lib.rt:119:9
+format-rule-requires : tie.Need-format-rule-requires
+format-rule-requires c κs =
+    (marked-start (c .before .before .before .before .before .before .before .before .before .args .table .now) (c .before .begin .ensures), c .before .begin .ensures .ready (c .before .before .before .before .before .before .before .before .before .args .table .now))
 
--- src/lib.rt:64:11
-is-some-requires : tie.Need-is-some-requires Inv-loop μ-loop
-is-some-requires c κs =
-    search needs
+-- src/lib.rt:120:5
+finish-requires : tie.Need-finish-requires
+finish-requires c κs =
+    fitting (c .before .before .before .format-rule .ensures)
 
--- src/lib.rt:65:9
-bump-requires : tie.Need-bump-requires Inv-loop μ-loop
-bump-requires c κs =
-    c .before .before .before .before .loop .inv .ready
+-- src/lib.rt:111:1
+same-length-2 : tie.Need-same-length-2
+same-length-2 c = search needs
 
--- src/lib.rt:67:13
-same-length-2 : tie.Need-same-length-2 Inv-loop μ-loop
-same-length-2 c =
-    c .before .before .before .before .bump .ensures .under 0 .len ∙ (c .before .before .before .before .before .before .before .before .before .loop .inv .under 0 .len ∙ (c .before .before .before .before .before .before .before .before .before .before .before .before .before .before .ex .ensures .under 0 .len))
-
--- src/lib.rt:67:13
-returns-2 : tie.Need-returns-2 Inv-loop μ-loop
-unfolding format while-turn
+-- src/lib.rt:111:1
+returns-2 : tie.Need-returns-2
+unfolding program
 returns-2 c =
-    both (c .before .before .before .before .before .before .before .before .before .before .before .before .before .before .ex .ensures .under _) (c .before .before .before .before .before .before .before .before .before .before .if1 .left) (cut {a = tt} (inv-end (c .before .before .before .before .before .before .before .before .before .loop .inv .under _) (last-cut (ask (c .before .before .before .before .before .before .before .before .peek .ensures) (if-yes (sym (c .before .before .before .before .before .before .before .is-some .ensures) ∙ c .before .before .before .before .before .before .if2 .taken) (cut (c .before .before .before .before .bump .ensures .under _) (c .if3 .taken)))) (c .if3 .taken))) (c .if3 .taken))
-
--- src/lib.rt:64:5
-loop-less : tie.Need-loop-less Inv-loop μ-loop
-loop-less c =
-    burns (c .before .before .before .before .bump .ensures .under 0 .ready (c .if3 .left)) (goes-some (c .before .before .before .before .bump .ensures .under 0) (c .if3 .left) (c .before .before .before .before .before .before .before .before .peek .ensures) (some-is-some _ (sym (c .before .before .before .before .before .before .before .is-some .ensures) ∙ c .before .before .before .before .before .before .if2 .taken)) bump-further)
-
--- src/lib.rt:64:5
-loop-again : tie.Need-loop-again Inv-loop μ-loop
-unfolding format while-turn
-loop-again c =
-    record { ready = c .before .before .before .before .bump .ensures .under 0 .ready (c .if3 .left); under = λ m. inv-again (c .before .before .before .before .before .before .before .before .before .loop .inv .under m) (ask (c .before .before .before .before .before .before .before .before .peek .ensures) (if-yes (sym (c .before .before .before .before .before .before .before .is-some .ensures) ∙ c .before .before .before .before .before .before .if2 .taken) (both (c .before .before .before .before .bump .ensures .under _) (c .if3 .left) (nothing (c .before .before .before .before .bump .ensures .under 0 .ready (c .if3 .left)))))) (c .if3 .left) (goes-some (c .before .before .before .before .bump .ensures .under 0) (c .if3 .left) (c .before .before .before .before .before .before .before .before .peek .ensures) (some-is-some _ (sym (c .before .before .before .before .before .before .before .is-some .ensures) ∙ c .before .before .before .before .before .before .if2 .taken)) bump-further) }
-
--- src/lib.rt:70:5
-flush-ws-requires : tie.Need-flush-ws-requires Inv-loop μ-loop
-flush-ws-requires c κs =
-    c .before .before .before .before .loop .inv .ready
-
--- src/lib.rt:72:9
-same-length-3 : tie.Need-same-length-3 Inv-loop μ-loop
-same-length-3 c =
-    c .before .before .before .before .flush-ws .ensures .under 0 .len ∙ (c .before .before .before .before .before .before .before .before .before .loop .inv .under 0 .len ∙ (c .before .before .before .before .before .before .before .before .before .before .before .before .before .before .ex .ensures .under 0 .len))
-
--- src/lib.rt:72:9
-returns-3 : tie.Need-returns-3 Inv-loop μ-loop
-unfolding format while-turn
-returns-3 c =
-    both (c .before .before .before .before .before .before .before .before .before .before .before .before .before .before .ex .ensures .under _) (c .before .before .before .before .before .before .before .before .before .before .if1 .left) (both (inv-end (c .before .before .before .before .before .before .before .before .before .loop .inv .under _) (last (ask (c .before .before .before .before .before .before .before .before .peek .ensures) (if-no (sym (c .before .before .before .before .before .before .before .is-some .ensures) ∙ c .before .before .before .before .before .before .if2 .left) (nothing (c .before .before .before .before .before .before .before .before .before .loop .inv .ready)))) (c .before .before .before .before .before .before .before .before .before .loop .inv .ready .going))) (c .before .before .before .before .before .before .before .before .before .loop .inv .ready .going) (cut (c .before .before .before .before .flush-ws .ensures .under _) (c .if4 .taken)))
-
--- src/lib.rt:74:5
-close-at-requires : tie.Need-close-at-requires Inv-loop μ-loop
-close-at-requires c κs =
-    (step-marked (c .before .before .before .before .before .flush-ws .ensures .under _) (c .before .if4 .left) (c .before .before .before .before .before .before .before .before .before .before .loop .inv .under _ .marked (step-marked (c .before .before .before .before .before .before .before .before .before .before .before .before .before .before .before .ex .ensures .under _) (c .before .before .before .before .before .before .before .before .before .before .before .if1 .left) (c .before .before .before .before .before .before .before .before .before .before .before .before .before .before .before .before .before .before .before .before .pre .0))), c .before .before .before .before .before .flush-ws .ensures .under 0 .ready (c .before .if4 .left))
-
--- src/lib.rt:56:1
-same-length-4 : tie.Need-same-length-4 Inv-loop μ-loop
-same-length-4 c =
-    c .before .before .close-at .ensures .len ∙ (c .before .before .before .before .before .before .before .before .flush-ws .ensures .under 0 .len ∙ (c .before .before .before .before .before .before .before .before .before .before .before .before .before .loop .inv .under 0 .len ∙ (c .before .before .before .before .before .before .before .before .before .before .before .before .before .before .before .before .before .before .ex .ensures .under 0 .len)))
-
--- src/lib.rt:56:1
-returns-4 : tie.Need-returns-4 Inv-loop μ-loop
-unfolding format while-turn
-returns-4 c =
-    both (c .before .before .before .before .before .before .before .before .before .before .before .before .before .before .before .before .before .before .ex .ensures .under _) (c .before .before .before .before .before .before .before .before .before .before .before .before .before .before .if1 .left) (both (inv-end (c .before .before .before .before .before .before .before .before .before .before .before .before .before .loop .inv .under _) (last (ask (c .before .before .before .before .before .before .before .before .before .before .before .before .peek .ensures) (if-no (sym (c .before .before .before .before .before .before .before .before .before .before .before .is-some .ensures) ∙ c .before .before .before .before .before .before .before .before .before .before .if2 .left) (nothing (c .before .before .before .before .before .before .before .before .before .before .before .before .before .loop .inv .ready)))) (c .before .before .before .before .before .before .before .before .before .before .before .before .before .loop .inv .ready .going))) (c .before .before .before .before .before .before .before .before .before .before .before .before .before .loop .inv .ready .going) (both (c .before .before .before .before .before .before .before .before .flush-ws .ensures .under _) (c .before .before .before .before .if4 .left) (c .before .before .close-at .ensures)))
+    entry-parsed (format) (c .before .before .before .before .before .before .before .before .before .before .before .before .before .before .before .before .args .limit) (valid-format (c .before .before .before .before .before .before .before .before .before .before .before .before .before .before .before .before .args .limit) (c .before .before .before .before .before .before .before .before .before .before .before .before .is-limit .ensures)) (c .before .before .before .before .before .before .before .before .before .before .before .check .ensures) (c .before .before .before .before .before .before .before .before .before .before .before .before .before .before .before .before .args .table .now) (c .before .before .before .before .before .before .before .before .before .if1 .left) (c .before .before .before .before .before .before .before .before .begin .ensures) (c .before .before .before .before .before .before .format-rule .ensures) (c .before .before .finish .ensures)
 
 pub format-spec : {M : Type 1} → statement M
 format-spec =
     tie.close
     (tie.spec
-    Inv-loop
-    μ-loop
-    ex-requires
+    is-limit-requires
+    check-requires
+    refuse-requires
     same-length
     returns
-    loop-holds
-    peek-requires
-    is-some-requires
-    bump-requires
+    begin-requires
+    format-rule-requires
+    finish-requires
     same-length-2
-    returns-2
-    loop-less
-    loop-again
-    flush-ws-requires
-    same-length-3
-    returns-3
-    close-at-requires
-    same-length-4
-    returns-4)
+    returns-2)

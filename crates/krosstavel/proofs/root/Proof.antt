@@ -1,131 +1,78 @@
 -- Written by tools/walk.py from the code and its program; docs/CONTRIBUTING.md says how.
 -- Assumes nothing.
-use Prim.Native.Nat.{zero, suc, _+_, _-_, _*_, _≤_, _<_}
-use mathlib.Core.Path.{_≡_, refl, sym, ap, _∙_}
-use mathlib.Core.Bool.{Bool, true, false}
-use mathlib.Core.Logic.{inl, inr}
-use native.Mathlib.Omega.{arith}
-use borrow.Author.Needs.{needs}
-use borrow.Author.Tests.{eq-eqb, ne-eqb}
-use Rattle.definition.specs.Classes.{isPathComponent, isPat, isPatOrRest, isUsePart, isSelectArm}
-use Rattle.definition.specs.Prog.{repeat}
-use Rattle.definition.specs.Grammar.{not-eof, root, stmt, while, while-turn}
-use Rattle.laws.specs.Progress.{stmt-further, path-component-some, use-path-some, object-key-some, glues-some, recovering-some}
-use Rattle.kinds.specs.Laws.{not-eof as none-eof, at-eof}
-use Rattle.tape.specs.View.{Step, Ran, said}
-use Rattle.tape.specs.Steps.{Loop, Onward, fuel, burns, here-few, marked-now, step-marked, both, cut, refusal, ends, if-yes, if-no, look, touch, spot, ask, ask-glued, ask-second, ask-second-as, scoped, unscoped, nothing, answered, answered-as, refuses, refused-tape, inv-start, inv-again, inv-end, last, last-cut}
-use Rattle.tape.specs.Counted.{deep, entered, entered-bool, barred, goes-on, goes-some, goes-saw, goes-glued, and-on}
+use Rattle.definition.specs.Parse.{root, program, isLimit}
+use Rattle.entry.specs.Whole.{entry-refused, entry-parsed, fitting}
+use Rattle.krosstavel.specs.Starting.{marked-start, valid-root}
 -- ## The skeleton
+use borrow.Author.Needs.{needs}
 use Rattle.krosstavel.proofs.root.Statement.{statement}
 use Rattle.krosstavel.proofs.root.Tie as tie
 use Rattle.krosstavel.proofs.root.Reads as reads
 use Rattle.krosstavel.proofs.root.Lts as lts
-use Rattle.grammar.proofs.st.Reads as st-reads
-use Rattle.kinds.proofs.classes.is_some.Reads as is-some-reads
-use Rattle.tape.proofs.Tape.close_at.Reads as close-at-reads
-use Rattle.tape.proofs.Tape.flush_ws.Reads as flush-ws-reads
-use Rattle.tape.proofs.Tape.peek.Reads as peek-reads
+use Rattle.entry.proofs.begin.Reads as begin-reads
+use Rattle.entry.proofs.check.Reads as check-reads
+use Rattle.entry.proofs.finish.Reads as finish-reads
+use Rattle.entry.proofs.is_limit.Reads as is-limit-reads
+use Rattle.entry.proofs.refuse.Reads as refuse-reads
+use Rattle.krosstavel.proofs.root_rule.Reads as root-rule-reads
 
-abbrev Inv-loop : tie.InvT-loop
-Inv-loop kinds lens table₀ t₀ table t =
-    Loop (while not-eof stmt) (while not-eof stmt) t₀ t kinds lens table₀ table
+-- src/lib.rt:83:26
+is-limit-requires : tie.Need-is-limit-requires
+is-limit-requires c κs = search needs
 
-abbrev μ-loop : tie.MeasureT-loop
-μ-loop kinds lens table₀ t₀ table t =
-    fuel t kinds
+-- src/lib.rt:83:9
+check-requires : tie.Need-check-requires
+check-requires c κs = search needs
 
--- src/lib.rt:19:5
-loop-holds : tie.Need-loop-holds Inv-loop μ-loop
-unfolding root while-turn
-loop-holds c =
-    record { ready = c .before .before .before .pre .1; under = λ m. inv-start }
+-- src/lib.rt:85:9
+refuse-requires : tie.Need-refuse-requires
+refuse-requires c κs = search needs
 
--- src/lib.rt:19:35
-peek-requires : tie.Need-peek-requires Inv-loop μ-loop
-peek-requires c κs =
-    (c .loop .inv .ready) .looks
+-- src/lib.rt:85:9
+same-length : tie.Need-same-length
+same-length c = search needs
 
--- src/lib.rt:19:11
-is-some-requires : tie.Need-is-some-requires Inv-loop μ-loop
-is-some-requires c κs =
-    search needs
-
--- src/lib.rt:20:9
-st-requires : tie.Need-st-requires Inv-loop μ-loop
-st-requires c κs =
-    c .before .before .before .before .loop .inv .ready
-
--- src/lib.rt:22:13
-same-length : tie.Need-same-length Inv-loop μ-loop
-same-length c =
-    c .before .before .before .before .st .ensures .under 0 .len ∙ (c .before .before .before .before .before .before .before .before .before .loop .inv .under 0 .len)
-
--- src/lib.rt:22:13
-returns : tie.Need-returns Inv-loop μ-loop
-unfolding root while-turn
+-- src/lib.rt:85:9
+returns : tie.Need-returns
 returns c =
-    cut {a = tt} (inv-end (c .before .before .before .before .before .before .before .before .before .loop .inv .under _) (last-cut (ask (c .before .before .before .before .before .before .before .before .peek .ensures) (if-yes (sym (c .before .before .before .before .before .before .before .is-some .ensures) ∙ c .before .before .before .before .before .before .if1 .taken) (cut (c .before .before .before .before .st .ensures .under _) (c .if2 .taken)))) (c .if2 .taken))) (c .if2 .taken)
+    entry-refused (root) (c .before .before .before .before .before .before .before .before .before .before .before .args .limit) (valid-root (c .before .before .before .before .before .before .before .before .before .before .before .args .limit) (c .before .before .before .before .before .before .before .is-limit .ensures)) (c .before .before .before .before .before .before .check .ensures) (c .before .before .before .before .before .before .before .before .before .before .before .args .table .now) (c .before .before .before .before .if1 .taken) (c .before .before .refuse .ensures)
 
--- src/lib.rt:19:5
-loop-less : tie.Need-loop-less Inv-loop μ-loop
-loop-less c =
-    burns (c .before .before .before .before .st .ensures .under 0 .ready (c .if2 .left)) (goes-on (c .before .before .before .before .st .ensures .under 0) (c .if2 .left) stmt-further)
+-- src/lib.rt:87:9
+begin-requires : tie.Need-begin-requires
+begin-requires c κs =
+    c .before .before .check .ensures .sized (c .if1 .left)
 
--- src/lib.rt:19:5
-loop-again : tie.Need-loop-again Inv-loop μ-loop
-unfolding root while-turn
-loop-again c =
-    record { ready = c .before .before .before .before .st .ensures .under 0 .ready (c .if2 .left); under = λ m. inv-again (c .before .before .before .before .before .before .before .before .before .loop .inv .under m) (ask (c .before .before .before .before .before .before .before .before .peek .ensures) (if-yes (sym (c .before .before .before .before .before .before .before .is-some .ensures) ∙ c .before .before .before .before .before .before .if1 .taken) (both (c .before .before .before .before .st .ensures .under _) (c .if2 .left) (nothing (c .before .before .before .before .st .ensures .under 0 .ready (c .if2 .left)))))) (c .if2 .left) (goes-on (c .before .before .before .before .st .ensures .under 0) (c .if2 .left) stmt-further) }
+-- src/lib.rt:88:9
+root-rule-requires : tie.Need-root-rule-requires
+root-rule-requires c κs =
+    (marked-start (c .before .before .before .before .before .before .before .before .before .args .table .now) (c .before .begin .ensures), c .before .begin .ensures .ready (c .before .before .before .before .before .before .before .before .before .args .table .now))
 
--- src/lib.rt:25:5
-flush-ws-requires : tie.Need-flush-ws-requires Inv-loop μ-loop
-flush-ws-requires c κs =
-    c .before .before .before .before .loop .inv .ready
+-- src/lib.rt:89:5
+finish-requires : tie.Need-finish-requires
+finish-requires c κs =
+    fitting (c .before .before .before .root-rule .ensures)
 
--- src/lib.rt:27:9
-same-length-2 : tie.Need-same-length-2 Inv-loop μ-loop
-same-length-2 c =
-    c .before .before .before .before .flush-ws .ensures .under 0 .len ∙ (c .before .before .before .before .before .before .before .before .before .loop .inv .under 0 .len)
+-- src/lib.rt:80:1
+same-length-2 : tie.Need-same-length-2
+same-length-2 c = search needs
 
--- src/lib.rt:27:9
-returns-2 : tie.Need-returns-2 Inv-loop μ-loop
-unfolding root while-turn
+-- src/lib.rt:80:1
+returns-2 : tie.Need-returns-2
+unfolding program
 returns-2 c =
-    both (inv-end (c .before .before .before .before .before .before .before .before .before .loop .inv .under _) (last (ask (c .before .before .before .before .before .before .before .before .peek .ensures) (if-no (sym (c .before .before .before .before .before .before .before .is-some .ensures) ∙ c .before .before .before .before .before .before .if1 .left) (nothing (c .before .before .before .before .before .before .before .before .before .loop .inv .ready)))) (c .before .before .before .before .before .before .before .before .before .loop .inv .ready .going))) (c .before .before .before .before .before .before .before .before .before .loop .inv .ready .going) (cut (c .before .before .before .before .flush-ws .ensures .under _) (c .if3 .taken))
-
--- src/lib.rt:29:5
-close-at-requires : tie.Need-close-at-requires Inv-loop μ-loop
-close-at-requires c κs =
-    (step-marked (c .before .before .before .before .before .flush-ws .ensures .under _) (c .before .if3 .left) (c .before .before .before .before .before .before .before .before .before .before .loop .inv .under _ .marked (c .before .before .before .before .before .before .before .before .before .before .before .before .before .before .pre .0)), c .before .before .before .before .before .flush-ws .ensures .under 0 .ready (c .before .if3 .left))
-
--- src/lib.rt:14:1
-same-length-3 : tie.Need-same-length-3 Inv-loop μ-loop
-same-length-3 c =
-    c .before .before .close-at .ensures .len ∙ (c .before .before .before .before .before .before .before .before .flush-ws .ensures .under 0 .len ∙ (c .before .before .before .before .before .before .before .before .before .before .before .before .before .loop .inv .under 0 .len))
-
--- src/lib.rt:14:1
-returns-3 : tie.Need-returns-3 Inv-loop μ-loop
-unfolding root while-turn
-returns-3 c =
-    both (inv-end (c .before .before .before .before .before .before .before .before .before .before .before .before .before .loop .inv .under _) (last (ask (c .before .before .before .before .before .before .before .before .before .before .before .before .peek .ensures) (if-no (sym (c .before .before .before .before .before .before .before .before .before .before .before .is-some .ensures) ∙ c .before .before .before .before .before .before .before .before .before .before .if1 .left) (nothing (c .before .before .before .before .before .before .before .before .before .before .before .before .before .loop .inv .ready)))) (c .before .before .before .before .before .before .before .before .before .before .before .before .before .loop .inv .ready .going))) (c .before .before .before .before .before .before .before .before .before .before .before .before .before .loop .inv .ready .going) (both (c .before .before .before .before .before .before .before .before .flush-ws .ensures .under _) (c .before .before .before .before .if3 .left) (c .before .before .close-at .ensures))
+    entry-parsed (root) (c .before .before .before .before .before .before .before .before .before .before .before .before .before .before .before .before .args .limit) (valid-root (c .before .before .before .before .before .before .before .before .before .before .before .before .before .before .before .before .args .limit) (c .before .before .before .before .before .before .before .before .before .before .before .before .is-limit .ensures)) (c .before .before .before .before .before .before .before .before .before .before .before .check .ensures) (c .before .before .before .before .before .before .before .before .before .before .before .before .before .before .before .before .args .table .now) (c .before .before .before .before .before .before .before .before .before .if1 .left) (c .before .before .before .before .before .before .before .before .begin .ensures) (c .before .before .before .before .before .before .root-rule .ensures) (c .before .before .finish .ensures)
 
 pub root-spec : {M : Type 1} → statement M
 root-spec =
     tie.close
     (tie.spec
-    Inv-loop
-    μ-loop
-    loop-holds
-    peek-requires
-    is-some-requires
-    st-requires
+    is-limit-requires
+    check-requires
+    refuse-requires
     same-length
     returns
-    loop-less
-    loop-again
-    flush-ws-requires
+    begin-requires
+    root-rule-requires
+    finish-requires
     same-length-2
-    returns-2
-    close-at-requires
-    same-length-3
-    returns-3)
+    returns-2)

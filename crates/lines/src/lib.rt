@@ -1,0 +1,1 @@
+// Operator lines: demand 3, as theorems about the definition. No code.

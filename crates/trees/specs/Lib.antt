@@ -1,0 +1,12 @@
+pub mod Forest
+pub mod Planted
+pub mod Input
+pub mod Root
+pub mod Sound
+pub mod Pieces
+pub mod Expressions
+pub mod Rules
+pub mod Nested
+pub mod Lossless
+pub mod Ends
+pub mod Two

@@ -1,0 +1,1 @@
+// Trees: theorems about the rows of an accepted table. No code.
