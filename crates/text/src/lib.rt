@@ -5,6 +5,7 @@ ghost use mathlib.Core.List.{_++_};
 ghost use Prim.Native.Nat.{_≤_};
 ghost use lib.ListN.{length, drop};
 ghost use Rattle.text.specs.Decimal.{Read};
+ghost use Rattle.text.specs.Part.{Counts};
 
 // A number that was read, and the place behind its last digit.
 pub struct Digits {
@@ -41,7 +42,7 @@ pub fn number(text: &[u8], at: usize) -> Digits
 
 // The numbers of a line, with one space between two: how many there are, or 0 where the line is no such list or `out` is too short.
 pub fn numbers(line: &[u8], out: &mut [u32]) -> usize
-    ensures { λ r. ⌜ r ≤ length (now (out .exit)) ⌝ }
+    ensures { λ r. ⌜ Counts r (now (out .exit)) ⌝ }
 {
     let mut n = 0;
     let mut at = 0;

@@ -1,9 +1,10 @@
 -- `text::numbers` meets its contract. The loop's invariant: both places are within their lists. The measure is what is left of the line.
 -- Assumes nothing.
 use Prim.Native.Nat.{_-_, _≤_}
-use mathlib.Core.Path.{_≡_}
+use mathlib.Core.Path.{_≡_, refl}
 use native.Mathlib.Omega.{arith}
 use lib.ListN.{length, length-set}
+use Rattle.text.specs.Part.{counts}
 use Rattle.text.proofs.numbers.Statement.{statement}
 use Rattle.text.proofs.numbers.Tie as tie
 
@@ -23,13 +24,13 @@ same-length : tie.Need-same-length Inv-loop μ-loop
 same-length c = omega arith
 
 returns : tie.Need-returns Inv-loop μ-loop
-returns c = omega arith
+returns c = (omega arith, refl)
 
 same-length-2 : tie.Need-same-length-2 Inv-loop μ-loop
 same-length-2 c = omega arith
 
 returns-2 : tie.Need-returns-2 Inv-loop μ-loop
-returns-2 c = omega arith
+returns-2 c = (omega arith, refl)
 
 mul-out : tie.Need-mul-out Inv-loop μ-loop
 mul-out c = omega arith
@@ -47,7 +48,7 @@ same-length-3 : tie.Need-same-length-3 Inv-loop μ-loop
 same-length-3 c = simp length-set (omega arith)
 
 returns-3 : tie.Need-returns-3 Inv-loop μ-loop
-returns-3 c = simp length-set (omega arith)
+returns-3 c = (omega arith, refl)
 
 add-at : tie.Need-add-at Inv-loop μ-loop
 add-at c = omega arith
@@ -68,7 +69,7 @@ same-length-4 : tie.Need-same-length-4 Inv-loop μ-loop
 same-length-4 c = omega arith
 
 returns-4 : tie.Need-returns-4 Inv-loop μ-loop
-returns-4 c = omega arith
+returns-4 c = counts _ _ (omega arith)
 
 pub numbers-spec : {M : Type 1} → statement M
 numbers-spec =
