@@ -1,0 +1,46 @@
+// The kinds' names, from a list with a line `number name` for each.
+ghost use Prim.Native.Nat.{_≤_};
+ghost use lib.ListN.{length};
+use libc::STDOUT_FILENO;
+
+// Part of a list, from here up to there.
+struct Part {
+    from: usize,
+    to: usize,
+}
+
+// Where the name of a kind stands; an empty part where it has none.
+fn name(names: &[u8], kind: u32) -> Part
+    ensures { λ r. ⌜ (r .from ≤ r .to) × (r .to ≤ length (now (names .entry))) ⌝ }
+{
+    let mut at = 0;
+    while at < names.len() {
+        let end = bytes::scan::find(names, at, names.len(), b'\n');
+        let x = text::number(names, at);
+        if x.value == kind {
+            if x.next < end {
+                return Part {
+                    from: x.next + 1,
+                    to: end,
+                };
+            }
+        }
+        if end == names.len() {
+            break;
+        }
+        at = end + 1;
+    }
+    Part { from: 0, to: 0 }
+}
+
+// A kind's name, or its number where the list has none.
+pub fn print_name(names: &[u8], kind: u32) {
+    let p = name(names, kind);
+    let from = p.from;
+    let to = p.to;
+    if from == to {
+        io::print_decimal(STDOUT_FILENO, kind as u64);
+        return;
+    }
+    io::write_all(STDOUT_FILENO, &names[from..to]);
+}
