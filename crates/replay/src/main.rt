@@ -5,6 +5,7 @@ mod table;
 mod wanted;
 
 ghost use mathlib.Core.Path.{_≡_};
+ghost use mathlib.Core.Bool.{cond};
 ghost use Prim.Native.Nat.{_+_, _≤_, _<_};
 ghost use lib.ListN.{length};
 use case::judge;
@@ -33,7 +34,7 @@ fn line(
 // One case more, which is the same or differs.
 fn counted(t: Tally, same: bool) -> Tally
     requires { ⌜ (t .differ ≤ t .cases) × (t .cases < 9223372036854775808) ⌝ }
-    ensures { λ r. ⌜ (r .differ ≤ r .cases) × (r .cases ≡ t .cases + 1) ⌝ }
+    ensures { λ r. ⌜ (r .differ ≤ r .cases) × ((r .cases ≡ t .cases + 1) × (r .differ ≡ t .differ + cond same 0 1)) ⌝ }
 {
     let cases = t.cases + 1;
     if same {
