@@ -28,8 +28,8 @@ def entry(name, use, value, valid, treated=''):
 def for_c(name):
     """The same for C: the outcome as three numbers."""
     return {
-        'needs': {'returns': f'rw (@as-numbers .ensures) (answers (@{name} .ensures))'},
-        'use': ['use Rattle.entry.specs.Promise.{answers}'],
+        'needs': {'returns': f'rw (@as-numbers .ensures) (@{name} .ensures .answers)'},
+        'use': [],
     }
 
 

@@ -25,22 +25,27 @@ rows (Refused n pl) = 0
 
 -- ## The promise
 
--- what the definition's outcome is for the code
-unfoldable pub outcomeOf : Out (Unit {0}) → Outcome
-outcomeOf (ok a s) = Tree (length (s .out))
-outcomeOf (refused n pl) = Refused n pl
-
 -- of the definition's outcome o, in a table of n elements
-pub record Ends (o : Out (Unit {0})) (n : ℕ) (r : Outcome) (tab : List ℕ) : Type 0 where
-  pub is : r ≡ outcomeOf o
-  pub table-is : tab ≡ tableOf n o
-
--- the same as numbers, for C
 pub record Answers (o : Out (Unit {0})) (n number place rows : ℕ) (tab : List ℕ) : Type 0 where
   pub number-is : number ≡ numberOf o
   pub place-is : place ≡ placeOf o
   pub rows-is : rows ≡ length (rowsOf o)
   pub table-is : tab ≡ tableOf n o
+
+-- what the definition's outcome is for the code
+unfoldable pub outcomeOf : Out (Unit {0}) → Outcome
+outcomeOf (ok a s) = Tree (length (s .out))
+outcomeOf (refused n pl) = Refused n pl
+
+-- the same of the code's outcome r
+pub record Ends (o : Out (Unit {0})) (n : ℕ) (r : Outcome) (tab : List ℕ) : Type 0 where
+  pub is : r ≡ outcomeOf o
+  pub answers : Answers o n (number r) (place r) (rows r) tab
+
+pub ends : {o : Out (Unit {0})} {n : ℕ} {r : Outcome} {tab : List ℕ} → r ≡ outcomeOf o → tab ≡ tableOf n o → Ends o n r tab
+unfolding outcomeOf numberOf placeOf rowsOf
+ends {o = ok a s} e t = rw e record { is = refl; answers = record { number-is = refl; place-is = refl; rows-is = refl; table-is = t } }
+ends {o = refused n pl} e t = rw e record { is = refl; answers = record { number-is = refl; place-is = refl; rows-is = refl; table-is = t } }
 
 -- What the public calls promise. n is how many elements the table has that is lent.
 abbrev pub Parsed : Entry → List ℕ → List ℕ → ℕ → ℕ → Outcome → List ℕ → Type 0
@@ -49,17 +54,12 @@ Parsed e ks ls n limit r tab = Ends (parse e ks ls n limit) n r tab
 abbrev pub Answered : Entry → List ℕ → List ℕ → ℕ → ℕ → ℕ → ℕ → ℕ → List ℕ → Type 0
 Answered e ks ls n limit number place rows tab = Answers (parse e ks ls n limit) n number place rows tab
 
-pub answers : {o : Out (Unit {0})} {n : ℕ} {r : Outcome} {tab : List ℕ} → Ends o n r tab → Answers o n (number r) (place r) (rows r) tab
-unfolding outcomeOf numberOf placeOf rowsOf
-answers {o = ok a s} p = rw (p .is) record { number-is = refl; place-is = refl; rows-is = refl; table-is = p .table-is }
-answers {o = refused n pl} p = rw (p .is) record { number-is = refl; place-is = refl; rows-is = refl; table-is = p .table-is }
-
 -- ## Nothing is left open
 
 -- any two outcomes that a call's promise allows are the same
 pub only-outcome : (e : Entry) (ks ls : List ℕ) (n limit : ℕ) {r r′ : Outcome} {tab tab′ : List ℕ} →
     Parsed e ks ls n limit r tab → Parsed e ks ls n limit r′ tab′ → (r ≡ r′) × (tab ≡ tab′)
-only-outcome e ks ls n limit p q = (p .is ∙ sym (q .is), p .table-is ∙ sym (q .table-is))
+only-outcome e ks ls n limit p q = (p .is ∙ sym (q .is), p .answers .table-is ∙ sym (q .answers .table-is))
 
 pub record Same (number number′ place place′ rows rows′ : ℕ) (tab tab′ : List ℕ) : Type 0 where
   pub number-same : number ≡ number′

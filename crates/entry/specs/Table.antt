@@ -15,7 +15,7 @@ use Rattle.tape.specs.Steps.{went-on, stopped}
 use Rattle.tape.specs.declared.Tape.{Tape}
 use Rattle.entry.specs.declared.Outcome.{Outcome}
 use Rattle.entry.specs.declared.Outcome.the-variants.{Tree, Refused}
-use Rattle.entry.specs.Promise.{outcomeOf, Ends}
+use Rattle.entry.specs.Promise.{outcomeOf, Ends, ends}
 
 -- ## The table
 
@@ -98,7 +98,7 @@ pub refused-ends : (n pl len : ℕ) {tab : List ℕ} → tab ≡ replicate len 0
 unfolding outcomeOf rowsOf tableOf flat
 refused-ends n pl len z =
     let m : len - 0 ≡ len = omega arith in
-    record { is = refl; table-is = rw m z }
+    ends refl (rw m z)
 
 -- the rows, and then zeros
 pub accepted-ends : (t : Tape) (tab : List ℕ) {tab′ : List ℕ} → t .no ≡ 0 → 4 * t .rows ≤ length tab →
@@ -106,10 +106,7 @@ pub accepted-ends : (t : Tape) (tab : List ℕ) {tab′ : List ℕ} → t .no �
 unfolding outcomeOf rowsOf tableOf
 accepted-ends t tab z h e =
     rw (went-on (t .no) (t .place) (tt {0}) (stateOf t tab) z)
-    record {
-      is = ap Tree (sym (length-rows (t .rows) tab));
-      table-is = rw (flat-rows (t .rows) tab h, length-take-le (4 * t .rows) tab h) e;
-    }
+    (ends (ap Tree (sym (length-rows (t .rows) tab))) (rw (flat-rows (t .rows) tab h, length-take-le (4 * t .rows) tab h) e))
 
 pub stopped-ends : (t : Tape) (tab : List ℕ) {r : Outcome} {tab′ : List ℕ} → (t .no ≡ 0 → ⊥) → Ends (refused (t .no) (t .place)) (length tab) r tab′ →
     Ends (outOf tt t tab) (length tab) r tab′

@@ -1,6 +1,5 @@
 -- Written by tools/walk.py from the code and its program; docs/CONTRIBUTING.md says how.
 -- Assumes nothing.
-use Rattle.entry.specs.Promise.{answers}
 -- ## The skeleton
 use borrow.Author.Needs.{needs}
 use Rattle.krosstavel.proofs.krosstavel_root.Statement.{statement}
@@ -25,7 +24,7 @@ same-length c = search needs
 -- src/lib.rt:125:1
 returns : tie.Need-returns
 returns c =
-    rw (c .as-numbers .ensures) (answers (c .before .before .before .root .ensures))
+    rw (c .as-numbers .ensures) (c .before .before .before .root .ensures .answers)
 
 pub krosstavel-root-spec : {M : Type 1} → statement M
 krosstavel-root-spec = tie.close (tie.spec root-requires as-numbers-requires same-length returns)
