@@ -47,16 +47,25 @@ fn read_kinds(line: &[u8], room: &mut [u32], kinds: &mut [u8]) -> usize
     n
 }
 
+fn no_guard() {
+    io::write_all(
+        STDOUT_FILENO,
+        b"no guard: three lines are wanted, its text, its tokens' kinds and their lengths\n",
+    );
+}
+
 // The input's three lines, taken apart.
 fn guard(input: &[u8], names: &[u8], kinds: &mut [u8], lens: &mut [u32], table: &mut [u32]) {
     let end = input.len();
     let a = bytes::scan::find(input, 0, end, b'\n');
     if a == end {
+        no_guard();
         return;
     }
     let second = a + 1;
     let b = bytes::scan::find(input, second, end, b'\n');
     if b == end {
+        no_guard();
         return;
     }
     let third = b + 1;

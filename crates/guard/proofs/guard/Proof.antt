@@ -8,6 +8,9 @@ use Rattle.guard.proofs.guard.Tie as tie
 find-requires : tie.Need-find-requires
 find-requires c κs = omega arith
 
+no-guard-requires : tie.Need-no-guard-requires
+no-guard-requires c κs = tt
+
 returns : tie.Need-returns
 returns c = tt
 
@@ -16,6 +19,9 @@ add-second c = omega arith
 
 find-requires-2 : tie.Need-find-requires-2
 find-requires-2 c κs = omega arith
+
+no-guard-requires-2 : tie.Need-no-guard-requires-2
+no-guard-requires-2 c κs = tt
 
 returns-2 : tie.Need-returns-2
 returns-2 c = tt
@@ -85,9 +91,11 @@ guard-spec =
     tie.close
     (tie.spec
     find-requires
+    no-guard-requires
     returns
     add-second
     find-requires-2
+    no-guard-requires-2
     returns-2
     add-third
     find-requires-3
