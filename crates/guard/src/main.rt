@@ -5,9 +5,9 @@ mod tree;
 
 ghost use mathlib.Core.Path.{_≡_};
 ghost use lib.ListN.{length};
-ghost use Rattle.text.specs.Part.{Counts};
 use libc::STDIN_FILENO;
 use libc::STDOUT_FILENO;
+use text::Listed;
 use tree::print;
 
 // What `exprs` separates expressions by, and the deepest limit.
@@ -33,25 +33,43 @@ fn parse(text: &[u8], kinds: &[u8], lens: &[u32], table: &mut [u32], names: &[u8
     print(table, a.rows as usize, text, names);
 }
 
-// The kinds of a line, by way of `room`: how many there are, or 0 where it is no list of bytes or `kinds` is too short.
-fn read_kinds(line: &[u8], room: &mut [u32], kinds: &mut [u8]) -> usize
-    ensures { λ r. ⌜ Counts r (now (kinds .exit)) ⌝ }
-{
-    let n = text::numbers(line, room);
-    if n > kinds.len() {
-        return 0;
-    }
-    if !text::narrow(&room[..n], kinds) {
-        return 0;
-    }
-    n
-}
-
 fn no_guard() {
     io::write_all(
         STDOUT_FILENO,
         b"no guard: three lines are wanted, its text, its tokens' kinds and their lengths\n",
     );
+}
+
+fn no_list() {
+    io::write_all(
+        STDOUT_FILENO,
+        b"no guard: its tokens' kinds and their lengths are decimal numbers with one space between two\n",
+    );
+}
+
+// The guard's tokens, from their two lines, and its tree. (`lens` is lent for the kinds' numbers first.)
+fn tokens(
+    text: &[u8],
+    kind_line: &[u8],
+    length_line: &[u8],
+    names: &[u8],
+    kinds: &mut [u8],
+    lens: &mut [u32],
+    table: &mut [u32],
+) {
+    let Listed::Numbers(n) = text::numbers(kind_line, lens) else {
+        no_list();
+        return;
+    };
+    if !text::narrow(&lens[..n], kinds) {
+        no_list();
+        return;
+    }
+    let Listed::Numbers(m) = text::numbers(length_line, lens) else {
+        no_list();
+        return;
+    };
+    parse(text, &kinds[..n], &lens[..m], table, names);
 }
 
 // The input's three lines, taken apart.
@@ -70,9 +88,15 @@ fn guard(input: &[u8], names: &[u8], kinds: &mut [u8], lens: &mut [u32], table: 
     }
     let third = b + 1;
     let c = bytes::scan::find(input, third, end, b'\n');
-    let n = read_kinds(&input[second..b], lens, kinds);
-    let m = text::numbers(&input[third..c], lens);
-    parse(&input[..a], &kinds[..n], &lens[..m], table, names);
+    tokens(
+        &input[..a],
+        &input[second..b],
+        &input[third..c],
+        names,
+        kinds,
+        lens,
+        table,
+    );
 }
 
 // Room for lengths and for a table. (The contract tells the length alone, which is all that lending it needs.)

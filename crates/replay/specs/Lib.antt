@@ -1,1 +1,3 @@
 pub mod Case
+pub mod Wanted
+pub mod Input

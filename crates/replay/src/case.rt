@@ -1,13 +1,13 @@
 // One case: the parser is asked it, and what it answers and leaves in the table is compared with what the list says.
 ghost use mathlib.Core.Path.{_≡_};
-ghost use mathlib.Core.Bool.{true};
 ghost use Prim.Native.Nat.{_≤_};
 ghost use lib.ListN.{length};
 ghost use Rattle.definition.specs.Parse.{parse};
 ghost use Rattle.entry.specs.Promise.{Answers};
-ghost use Rattle.replay.specs.Case.{entryOf, Said, Holds};
+ghost use Rattle.replay.specs.Case.{entryOf, Said, Holds, Case, Fits, Decides};
 use crate::table::fill;
 use crate::table::same;
+use crate::wanted::Wanted;
 use crate::wanted::rows;
 use entry::Answer;
 
@@ -36,7 +36,7 @@ fn ask(
 // Whether an answer has the number, the place and the row count that the list says.
 fn is_said(a: Answer, said: &[u32]) -> bool
     requires { ⌜ 3 ≤ length (now said) ⌝ }
-    ensures { λ r. ⌜ (r ≡ true → Said (a .number) (a .place) (a .rows) (now (said .entry))) × (Said (a .number) (a .place) (a .rows) (now (said .entry)) → r ≡ true) ⌝ }
+    ensures { λ r. ⌜ Decides r (Said (a .number) (a .place) (a .rows) (now (said .entry))) ⌝ }
 {
     if a.number != said[0] {
         return false;
@@ -59,8 +59,8 @@ fn agrees(
     table: &mut [u32],
     wanted: &mut [u32],
 ) -> bool
-    requires { ⌜ (3 ≤ length (now list)) × (3 ≤ length (now said)) ⌝ }
-    ensures { λ r. ⌜ (r ≡ true → Holds (now (list .entry)) (now (kinds .entry)) (now (lens .entry)) (now (said .entry)) (now (wanted .exit))) ⌝ }
+    requires { ⌜ (3 ≤ length (now list)) × ((3 ≤ length (now said)) × (length (now table) ≡ length (now wanted))) ⌝ }
+    ensures { λ r. ⌜ Decides r (Holds (now (list .entry)) (now (kinds .entry)) (now (lens .entry)) (now (said .entry)) (length (now (table .entry)))) ⌝ }
 {
     fill(table, STAIN);
     let a = ask(list[0], list[1], list[2], kinds, lens, table);
@@ -68,7 +68,10 @@ fn agrees(
         return false;
     }
     fill(wanted, 0);
-    if rows(&said[3..], kinds, lens, wanted) != wide(a.rows) {
+    let Wanted::Rows(n) = rows(&said[3..], kinds, lens, wanted) else {
+        return false;
+    };
+    if n != wide(a.rows) {
         return false;
     }
     same(table, wanted)
@@ -82,7 +85,9 @@ fn wide(x: u32) -> usize
 
 // Takes a case apart: entry, separator, limit, elements, the kinds behind their count, the lengths behind theirs, the answer.
 // False too where the list is no case, or is too large for what is lent.
-pub fn judge(list: &[u32], kinds: &mut [u8], table: &mut [u32], wanted: &mut [u32]) -> bool {
+pub fn judge(list: &[u32], kinds: &mut [u8], table: &mut [u32], wanted: &mut [u32]) -> bool
+    ensures { λ r. ⌜ Decides r (Case (now (list .entry)) × Fits (now (list .entry)) (now (kinds .entry)) (now (table .entry)) (now (wanted .entry))) ⌝ }
+{
     let n = list.len();
     if n < 9 {
         return false;
@@ -96,13 +101,10 @@ pub fn judge(list: &[u32], kinds: &mut [u8], table: &mut [u32], wanted: &mut [u3
     if lens > n - 9 - tokens {
         return false;
     }
-    let elements = wide(list[3]);
     if list[0] > 2 {
         return false;
     }
-    if tokens > kinds.len() {
-        return false;
-    }
+    let elements = wide(list[3]);
     if elements > table.len() {
         return false;
     }

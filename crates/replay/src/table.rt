@@ -1,7 +1,7 @@
 // A list of u32 as a whole: filled with one number, compared with another.
 ghost use mathlib.Core.Path.{_≡_};
-ghost use mathlib.Core.Bool.{true};
 ghost use lib.ListN.{length, replicate};
+ghost use Rattle.replay.specs.Case.{Decides};
 
 pub fn fill(table: &mut [u32], value: u32)
     ensures { λ _. ⌜ now (table .exit) ≡ replicate (length (now (table .entry))) value ⌝ }
@@ -15,7 +15,7 @@ pub fn fill(table: &mut [u32], value: u32)
 
 // Whether two lists are the same, element by element.
 pub fn same(a: &[u32], b: &[u32]) -> bool
-    ensures { λ r. ⌜ (r ≡ true → now (a .entry) ≡ now (b .entry)) × (now (a .entry) ≡ now (b .entry) → r ≡ true) ⌝ }
+    ensures { λ r. ⌜ Decides r (now (a .entry) ≡ now (b .entry)) ⌝ }
 {
     if a.len() != b.len() {
         return false;

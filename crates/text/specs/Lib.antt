@@ -1,3 +1,3 @@
 pub mod Copy
-pub mod Decimal
+pub mod Line
 pub mod Part

@@ -32,47 +32,29 @@ add-third c = omega arith
 find-requires-3 : tie.Need-find-requires-3
 find-requires-3 c κs = omega arith
 
-sub-read-kinds : tie.Need-sub-read-kinds
-sub-read-kinds c = omega arith
+slice-aggregate-tokens : tie.Need-slice-aggregate-tokens
+slice-aggregate-tokens c = counts (c .before .before .before .before .before .find .result) (c .before .before .before .before .before .before .before .before .before .before .before .args .input .now) (omega arith) .1
 
-part-read-kinds-start : tie.Need-part-read-kinds-start
-part-read-kinds-start c = omega arith
+sub-tokens : tie.Need-sub-tokens
+sub-tokens c = omega arith
 
-part-read-kinds-end : tie.Need-part-read-kinds-end
-part-read-kinds-end c = omega arith
+part-tokens-start : tie.Need-part-tokens-start
+part-tokens-start c = omega arith
 
-read-kinds-requires : tie.Need-read-kinds-requires
-read-kinds-requires c κs = tt
+part-tokens-end : tie.Need-part-tokens-end
+part-tokens-end c = omega arith
 
-sub-numbers : tie.Need-sub-numbers
-sub-numbers c = omega arith
+sub-tokens-2 : tie.Need-sub-tokens-2
+sub-tokens-2 c = omega arith
 
-part-numbers-start : tie.Need-part-numbers-start
-part-numbers-start c = omega arith
+part-tokens-start-2 : tie.Need-part-tokens-start-2
+part-tokens-start-2 c = omega arith
 
-part-numbers-end : tie.Need-part-numbers-end
-part-numbers-end c = omega arith
+part-tokens-end-2 : tie.Need-part-tokens-end-2
+part-tokens-end-2 c = omega arith
 
-numbers-requires : tie.Need-numbers-requires
-numbers-requires c κs = tt
-
-slice-aggregate-parse : tie.Need-slice-aggregate-parse
-slice-aggregate-parse c = counts (c .before .before .before .before .before .before .before .before .before .before .before .before .before .before .before .before .before .before .find .result) (c .before .before .before .before .before .before .before .before .before .before .before .before .before .before .before .before .before .before .before .before .before .before .before .before .args .input .now) (omega arith) .1
-
-slice-reshare-prefix-parse : tie.Need-slice-reshare-prefix-parse
-slice-reshare-prefix-parse c = omega arith
-
-slice-aggregate-parse-2 : tie.Need-slice-aggregate-parse-2
-slice-aggregate-parse-2 c = c .before .before .before .before .before .before .before .before .before .before .before .read-kinds .ensures .1
-
-slice-reshare-prefix-parse-2 : tie.Need-slice-reshare-prefix-parse-2
-slice-reshare-prefix-parse-2 c = omega arith
-
-slice-aggregate-parse-3 : tie.Need-slice-aggregate-parse-3
-slice-aggregate-parse-3 c = c .before .before .before .before .before .numbers .ensures .1
-
-parse-requires : tie.Need-parse-requires
-parse-requires c κs = tt
+tokens-requires : tie.Need-tokens-requires
+tokens-requires c κs = tt
 
 same-length : tie.Need-same-length
 same-length c = omega arith
@@ -99,20 +81,14 @@ guard-spec =
     returns-2
     add-third
     find-requires-3
-    sub-read-kinds
-    part-read-kinds-start
-    part-read-kinds-end
-    read-kinds-requires
-    sub-numbers
-    part-numbers-start
-    part-numbers-end
-    numbers-requires
-    slice-aggregate-parse
-    slice-reshare-prefix-parse
-    slice-aggregate-parse-2
-    slice-reshare-prefix-parse-2
-    slice-aggregate-parse-3
-    parse-requires
+    slice-aggregate-tokens
+    sub-tokens
+    part-tokens-start
+    part-tokens-end
+    sub-tokens-2
+    part-tokens-start-2
+    part-tokens-end-2
+    tokens-requires
     same-length
     same-length-2
     same-length-3

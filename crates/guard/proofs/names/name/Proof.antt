@@ -18,11 +18,23 @@ loop-holds c = omega arith
 find-requires : tie.Need-find-requires Inv-loop μ-loop
 find-requires c κs = omega arith
 
-number-requires : tie.Need-number-requires Inv-loop μ-loop
-number-requires c κs = omega arith
+find-requires-2 : tie.Need-find-requires-2 Inv-loop μ-loop
+find-requires-2 c κs = omega arith
 
-add-t9 : tie.Need-add-t9 Inv-loop μ-loop
-add-t9 c = omega arith
+sub-is-number : tie.Need-sub-is-number Inv-loop μ-loop
+sub-is-number c = omega arith
+
+part-is-number-start : tie.Need-part-is-number-start Inv-loop μ-loop
+part-is-number-start c = omega arith
+
+part-is-number-end : tie.Need-part-is-number-end Inv-loop μ-loop
+part-is-number-end c = omega arith
+
+is-number-requires : tie.Need-is-number-requires Inv-loop μ-loop
+is-number-requires c κs = tt
+
+add-t13 : tie.Need-add-t13 Inv-loop μ-loop
+add-t13 c = omega arith
 
 returns : tie.Need-returns Inv-loop μ-loop
 returns c = omega arith
@@ -50,8 +62,12 @@ name-spec =
     μ-loop
     loop-holds
     find-requires
-    number-requires
-    add-t9
+    find-requires-2
+    sub-is-number
+    part-is-number-start
+    part-is-number-end
+    is-number-requires
+    add-t13
     returns
     add-at
     loop-less

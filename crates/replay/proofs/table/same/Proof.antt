@@ -7,6 +7,7 @@ use native.Mathlib.Omega.{arith}
 use lib.Seq.{ext-getD}
 use lib.ListN.{length, getD}
 use borrow.Author.Count.{below-more}
+use Rattle.replay.specs.Case.{says-no}
 use Rattle.replay.proofs.table.same.Statement.{statement}
 use Rattle.replay.proofs.table.same.Tie as tie
 
@@ -17,7 +18,7 @@ abbrev μ-loop : tie.MeasureT-loop
 μ-loop a b i₀ i = length a - i
 
 returns : tie.Need-returns Inv-loop μ-loop
-returns c = ((λ e. cc), (λ e. absurd ((c .if1 .taken) (ap length e))))
+returns c = says-no (λ e. (c .if1 .taken) (ap length e))
 
 loop-holds : tie.Need-loop-holds Inv-loop μ-loop
 loop-holds c = omega arith
@@ -35,7 +36,7 @@ shared-slice-read-if2-2 : tie.Need-shared-slice-read-if2-2 Inv-loop μ-loop
 shared-slice-read-if2-2 c = omega arith
 
 returns-2 : tie.Need-returns-2 Inv-loop μ-loop
-returns-2 c = ((λ e. cc), (λ e. absurd ((c .if2 .taken) (ap (λ (l : List ℕ). getD l (c .before .before .before .before .loop .i) 0) e))))
+returns-2 c = says-no (λ e. (c .if2 .taken) (ap (λ (l : List ℕ). getD l (c .before .before .before .before .loop .i) 0) e))
 
 add-i : tie.Need-add-i Inv-loop μ-loop
 add-i c = omega arith
@@ -49,7 +50,7 @@ loop-again c = (omega arith, below-more _ _ (c .before .before .before .before .
 returns-3 : tie.Need-returns-3 Inv-loop μ-loop
 returns-3 c =
     let e : c .before .loop .i ≡ length (c .before .before .before .args .a .now) = omega arith in
-    ((λ _. ext-getD 0 _ _ (c .before .before .if1 .left) (rw e at (c .before .loop .inv .1))), (λ _. refl))
+    record { yes = λ _. ext-getD 0 _ _ (c .before .before .if1 .left) (rw e at (c .before .loop .inv .1)); no = λ _. refl }
 
 pub same-spec : {M : Type 1} → statement M
 same-spec =

@@ -1,8 +1,10 @@
--- `replay::wanted::put` is safe: its four stores are within the table.
+-- `replay::wanted::put` meets its contract: its four stores are within the table.
 -- Assumes nothing.
+use mathlib.Core.Path.{refl}
 use native.Mathlib.Omega.{arith}
 use lib.ListN.{length-set}
 use borrow.Author.Needs.{needs}
+use Rattle.replay.specs.Wanted.{rowPut}
 use Rattle.replay.proofs.wanted.put.Statement.{statement}
 use Rattle.replay.proofs.wanted.put.Tie as tie
 
@@ -46,7 +48,8 @@ same-length : tie.Need-same-length
 same-length c = simp length-set
 
 returns : tie.Need-returns
-returns c = search needs
+unfolding rowPut
+returns c = refl
 
 pub put-spec : {M : Type 1} → statement M
 put-spec =
