@@ -3,7 +3,7 @@
 A program is a tuple:
   ('ret', text)            an answer                 ('call', name, args)    a step or a rule
   ('seq', binder, P, Q)    P, its answer bound, Q    ('test', cond, P, Q)    if cond then P else Q
-  ('scope', P)             checkpoint P              ('loop', name, args, init)
+  ('scope', c, P)          checkpoint λ c. P         ('loop', name, args, init)
   ('while', C, P)          the Rust's while          ('look', what)          nth0, glued, here
   ('ask', how)             a test of what is seen: 1 kind, 'g' with the glued one, 2 kinds
   ('stop', number, place)  a refusal; the place is a binder, or None for "here"
@@ -101,6 +101,12 @@ class Parser:
                 progs.append(self.block())
                 args.append(None)
                 break
+            if w == 'λ':
+                binder = self.ts[self.i + 1].text
+                self.i += 3
+                progs.append((binder, self.expr()))
+                args.append(None)
+                break
             if w == '(':
                 ts = self.group_tokens()
                 args.append('(' + words(ts) + ')')
@@ -178,7 +184,7 @@ def known(head, args, progs):
     if head == 'when':
         return ('test', args[0], as_program(progs[1]), ('ret', 'tt'))
     if head == 'checkpoint':
-        return ('scope', as_program(progs[0]))
+        return ('scope',) + progs[0]
     if head == 'while':
         return ('while', as_program(progs[0]), as_program(progs[1]))
     if head == 'loop':

@@ -7,8 +7,9 @@ of crates/tape/specs/Steps.antt. docs/CONTRIBUTING.md says how code has to be wr
 
     a call that goes on       both W go REST        a look           look / touch / spot
     a call that is refused    cut W no              a test of it     ask / ask-glued / ask-second
-    a test of the program     if-yes / if-no        a checkpoint     scoped / unscoped
-    the end                   nothing / answered    a refusal        refuses
+    a call that is followed   followed W V          a checkpoint     scoped / unscoped
+    a test of the program     if-yes / if-no        a refusal        refuses
+    the end                   nothing / answered / says / kept
     a loop                    inv-end (last ..), inv-end (last-cut ..), inv-again
 
 The checker judges what is written; a rule that this script cannot walk is proved by hand and named under `by-hand` in the words file.
@@ -24,17 +25,21 @@ import programs
 
 ROOT = os.getcwd()
 GRAMMAR = 'crates/definition/specs/Grammar.antt'
+# the ladders of the definition as the code's functions cut them, equal by computation
+CUTS = 'crates/grammar/specs/Cuts.antt'
 UNFOLDABLE = set(re.findall(r'^unfoldable pub (\S+) :', open(GRAMMAR).read(), re.M))
+CUT = set(re.findall(r'^unfoldable pub (\S+) :', open(CUTS).read(), re.M)) if os.path.exists(CUTS) else set()
+KINDS = {name: int(number) for name, number in re.findall(r'^(\S+) = (\d+)$', open('crates/definition/specs/Kinds.antt').read(), re.M)}
 NUMBER_TEST = re.compile(r'as-values .*\)((?: \.1){6}) \.0\) 0( → ⊥)?$')
 LOOKS = ('peek', 'glued', 'peek-second')
 WRAPS = {'take-if': 'ends', 'take-while': 'ends'}
 # the laws of crates/laws/specs/Progress.antt that ask nothing, a class of the next kind, a class of it with the one glued to it; the others ask for a token
-FURTHER_ANY = {'stmt': 'stmt-further', 'expr-with': '(λ i d n s. expr-with-further i d n s _ _ _)'}
+FURTHER_ANY = {'stmt': 'stmt-further', 'expr': 'expr-further', 'expr-with': '(λ i d n s. expr-with-further i d n s _ _ _)'}
 FURTHER_SAW = {'path': 'isPathComponent', 'generic-path': 'isPathComponent'}
 FURTHER_GLUED = {'pat': 'isPat', 'pat-item': 'isPatOrRest', 'pat-or-rest': 'isPatOrRest', 'match-case': 'isPat', 'select-case': 'isSelectArm'}
 # a kind of a class is no Eof
 SOME = {'is-path-component': 'path-component-some _', 'is-use-path': 'use-path-some _', 'is-object-key': 'object-key-some _',
-        'glues': 'glues-some _ _ _ _ refl', 'is-use-part': 'none-eof isUsePart (at-eof true true 0 .use-part)',
+        'glues': 'glues-some _ _ _ _ refl', 'is-use-part': 'none-eof isUsePart (at-eof Brace.Yes Range.Yes 0 .use-part)',
         'is-stmt-recovering': 'recovering-some _ _', 'is-some': 'some-is-some _'}
 
 
@@ -46,14 +51,16 @@ class Function:
     def __init__(self, crate, module, name, requires, ensures, aliases):
         self.crate, self.module, self.name, self.key = crate, module, name, name.replace('_', '-')
         self.asks = [a.strip() for a in split(requires, '×')] if requires else []
-        m = re.match(r'(Ran|Step (\S+)) (.*)', ensures)
+        m = re.match(r'(Ran|Step (\S+)|Follows (\S+)) (.*)', ensures)
         self.rule = bool(m)
-        self.mark = m.group(2) if m else None
+        # one that follows a call takes a refused tape too, and gives it back
+        self.follows = bool(m and m.group(3))
+        self.mark = m.group(2) or m.group(3) if m else None
         self.program = self.answer = None
         if m:
-            parts = split(m.group(3), ' ')
+            parts = split(m.group(4), ' ')
             self.program, self.answer = parts[0], parts[1]
-            head = self.program.strip('()').split()
+            head = split(self.program[1:-1] if self.program[0] == '(' else self.program, ' ')
             self.head, self.args = aliases.get(head[0], head[0]), head[1:]
 
     def ask(self, word):
@@ -83,7 +90,7 @@ def contracts(crate):
     for file in sorted(os.listdir(folder)):
         text = open(f'{folder}/{file}').read()
         module = '' if file == 'lib.rt' else file[:-3]
-        aliases = {b: a for a, b in re.findall(r'([^\s{,]+) as (\w+)', text)}
+        aliases = {b: a for line in re.findall(r'^ghost use .*', text, re.M) for a, b in re.findall(r'([^\s{,]+) as (\w+)', line)}
         impl = 'Tape' if crate == 'tape' else ''
         for m in re.finditer(r'fn (\w+)\(([^)]*)\)[^{]*?\n(?:\s+requires \{ ⌜ (.*?) ⌝ \}\n)?\s+ensures \{ λ \w+\. ⌜ (.*?) ⌝ \}', text):
             name, params, requires, ensures = m.groups()
@@ -147,7 +154,7 @@ class Walk:
         self.inside = False
         self.opened = []
         self.coded = {f.head for f in known.values() if f.rule} | {'bump', 'flush', 'close'} | set(WRAPS)
-        self.tree = self.inlined(defs[fn.head][1])
+        self.tree = self.inlined(defs[words.get('as', fn.head)][1])
 
     def inlined(self, p, given={}):
         """A program that no function runs stands where it is used, with the programs that it is given."""
@@ -172,7 +179,7 @@ class Walk:
                 e = self.element(f, f'{at} .{f}', p)
                 if e:
                     out.append(e)
-        self.start = out[:1]
+        self.way = out
         return out
 
     def element(self, field, term, place):
@@ -186,6 +193,8 @@ class Walk:
         base = field if field in self.known else re.sub(r'\d+$', '', field)
         if base == 'pre':
             return Element('pre', base, term, place)
+        if base == 'match':
+            return self.arm(term, place)
         if base == 'loop':
             return Element('loop', base, term, place)
         if base in LOOKS:
@@ -198,6 +207,15 @@ class Walk:
         if f:
             return Element('value', base, term, place)
         return None
+
+    def arm(self, term, place):
+        """Which arm of a `match` on a number: of which key, or behind which keys."""
+        own = self.places.own[place]
+        keys = [int(k) for k in re.findall(r'List\._∷_ (\d+) List\.\[\]', own)]
+        m = re.match(r'pub (keys\d+) :', own)
+        e = Element('key' if m else 'rest', 'match', f"{term} .{m.group(1) if m else 'rest'}", place)
+        e.keys = keys
+        return e
 
     # ### What holds at a point of the way
 
@@ -216,6 +234,8 @@ class Walk:
                 go = e
             if e.kind == 'call':
                 f = self.known[e.name]
+                if go is None:
+                    raise Stuck(f'no test after {e.name}')
                 under = '' if f.mark else ' .under 0'
                 return f'{e.term} .ensures{under} .ready ({go.term} .left)'
             if e.kind == 'loop':
@@ -239,7 +259,7 @@ class Walk:
         start, term = 0, None
         if self.tree[0] == 'scope':
             for n, e in enumerate(els):
-                if e.kind == 'call' and e.name == 'flush-ws':
+                if e.kind == 'call' and e.name == 'mark':
                     start, term = n + 1, 'marked-now'
                     break
             start += 1
@@ -257,12 +277,14 @@ class Walk:
     def step_of(self, e):
         term = f'{e.term} .ensures' if self.known[e.name].mark else f'{e.term} .ensures .under _'
         wrap = self.words.get('wrap', {}).get(e.name)
-        return self.expand(wrap, self.start).replace('{}', term) if wrap else term
+        return self.expand(wrap, self.way).replace('{}', term) if wrap else term
 
     def lengths(self, els):
         xs = []
         for e in els:
-            if e.kind == 'call':
+            if e.kind == 'call' and self.known[e.name].follows:
+                xs.insert(0, f'follows-len ({e.term} .ensures)')
+            elif e.kind == 'call':
                 xs.insert(0, f"{e.term} .ensures{'' if self.known[e.name].mark else ' .under 0'} .len")
             if e.kind == 'loop':
                 xs.insert(0, f"{self.under(e, '0')} .len")
@@ -291,7 +313,7 @@ class Walk:
 
     def skip(self, els, i, kinds):
         while i < len(els) and els[i].kind not in kinds:
-            if els[i].kind not in ('value',):
+            if els[i].kind not in ('value', 'rest'):
                 raise Stuck(f'{kinds} expected, found {els[i].kind} {els[i].name}')
             i += 1
         if i >= len(els):
@@ -301,6 +323,8 @@ class Walk:
     def call(self, p, els, i):
         """A call's own step."""
         i = self.skip(els, i, ('call',))
+        if self.known[els[i].name].follows:
+            return f'{els[i].term} .ensures .on ({self.ready(els[:i])} .going)', i + 1
         term = self.step_of(els[i])
         wrap = WRAPS.get(p[1])
         return (f'{wrap} ({term})' if wrap else term), i + 1
@@ -317,6 +341,8 @@ class Walk:
             if j < len(els) and els[j].kind == 'no':
                 return f'refusal ({term}) ({els[j].term} .taken)', j + 1, 'no'
             return term, j, 'end'
+        if kind == 'test' and i < len(els) and els[i].kind in ('key', 'rest'):
+            return self.matched(p, els, i)
         if kind == 'test':
             j = self.skip(els, i, ('if',))
             law, fact = self.test(els, j)
@@ -330,17 +356,49 @@ class Walk:
             return self.loop(p, els, i)
         raise Stuck(f'cannot walk {p}')
 
+    def matched(self, p, els, i):
+        """A test of the ladder that a `match` decides."""
+        e = els[i]
+        m = re.fullmatch(r'eqb k (K-\S+)', p[1])
+        kind = KINDS[m.group(1)] if m else None
+        if e.kind == 'rest' and kind in e.keys:
+            n = e.keys.index(kind)
+            fact = f"{e.term}{' .0' * (len(e.keys) - 1 - n)} .1"
+            term, j, how = self.walk(p[3], els, i)
+            return f'if-no (ne-eqb _ _ ({fact})) ({term})', j, how
+        if e.kind == 'rest':
+            return self.walk(p, els, i + 1)
+        if kind is None:
+            raise Stuck(f'a match cannot decide {p[1]}')
+        if e.keys == [kind]:
+            term, j, how = self.walk(p[2], els, i + 1)
+            return f'if-yes (eq-eqb _ _ ({e.term})) ({term})', j, how
+        term, j, how = self.walk(p[3], els, i)
+        return f'if-no (not-key {kind} ({e.term}) refl) ({term})', j, how
+
     def ending(self, p, els, i):
         how = 'inl' if p[1].startswith('(inl') else 'inr' if p[1].startswith('(inr') else 'end'
         answers = how == 'end' and self.fn.answer != 'tt' and not self.inside or how == 'inl' and self.words.get('answers')
+        # another form of the answer, as the words give it
+        for word, end in (('last', 'inr'), ('again', 'inl')):
+            if how == end and word in self.words:
+                fact = self.expand(self.words[word], els).replace('{read}', self.next_op(els).replace('looked', 'read-as', 1))
+                while i < len(els) and els[i].kind in ('value', 'look'):
+                    i += 1
+                return f'kept ({fact}) ({self.ready(els[:i])})', i, how
+        # yes or no, put down by `say`
+        if (answers or how == 'inr' and not self.inside) and i < len(els) and els[-1].name == 'say' and all(e.kind == 'value' for e in els[i:]):
+            return f"says (λ x. {'inr x' if how == 'inr' else 'x'}) ({els[-1].term} .ensures) ({self.ready(els)})", len(els), how
         # what else the code computed on the way here does not matter
-        while i < len(els) and els[i].kind == 'value':
+        while i < len(els) and els[i].kind in ('value', 'rest') and els[i].name != 'say':
             i += 1
         # a yes or no that the code tests, to put it down
         if how == 'inr' and self.fn.answer != 'tt' and self.tree[0] == 'loop':
             if i < len(els) and els[i].kind == 'if':
                 side = 'taken' if re.search(r'\bpub taken\b', self.places.own[els[i].place]) else 'left'
                 return f'answered-as (ap (λ (x : Bool). inr x) ({els[i].term} .{side})) ({self.ready(els[:i])})', i + 1, how
+        if answers and self.need in self.words.get('kept', []):
+            return f"kept ({self.expand(self.words['kept'][self.need], els)}) ({self.ready(els[:i])})", i, how
         if answers and i < len(els) and els[i].kind == 'if':
             side = 'taken' if re.search(r'\bpub taken\b', self.places.own[els[i].place]) else 'left'
             return f'answered-as ({els[i].term} .{side}) ({self.ready(els[:i])})', i + 1, how
@@ -359,6 +417,8 @@ class Walk:
         if j < len(els) and els[j].kind == 'go':
             more, k, how = self.walk(rest, els, j + 1)
             return f'both ({term}) ({els[j].term} .left) ({more})', k, how
+        if j < len(els) and els[j].kind == 'call' and self.known[els[j].name].follows:
+            return f'followed ({term}) ({els[j].term} .ensures)', j + 1, 'end'
         if first[0] in ('while', 'loop', 'test'):
             more, k, how = self.walk(rest, els, j)
             return f'both ({term}) ({self.ready(els[:j])} .going) ({more})', k, how
@@ -415,7 +475,7 @@ class Walk:
         flush, test = els[i], els[i + 1]
         if test.kind == 'no':
             return f'unscoped ({flush.term} .ensures) ({test.term} .taken){under}', i + 2, 'no'
-        term, j, how = self.walk(p[1], els, i + 2)
+        term, j, how = self.walk(p[2], els, i + 2)
         return f'scoped ({flush.term} .ensures) ({test.term} .left) ({term}){under}', j, how
 
     def stop(self, p, els, i):
@@ -437,8 +497,14 @@ class Walk:
         if how == 'no':
             return f'inv-end ({inv}) (last-cut ({term}) ({self.refused(els)}))', j, 'no'
         if how == 'inr':
-            return f'inv-end ({inv}) (last ({term}) ({self.ready(els[:j])} .going))', j, 'end'
+            return f'inv-end ({inv}) (last ({term}) ({self.going(els[:j])}))', j, 'end'
         raise Stuck(f'a turn that ends in {how}')
+
+    def going(self, els):
+        """That the tape goes on, where `say` may have put an answer down."""
+        if els[-1].name == 'say':
+            return f'ap (λ (x : Tape). x .no) ({els[-1].term} .ensures) ∙ {self.ready(els)} .going'
+        return f'{self.ready(els)} .going'
 
     # ### The needs
 
@@ -456,6 +522,10 @@ class Walk:
                 parts.append(f'deep ({self.ready(els)})' if self.counted() else self.ready(els))
             elif a.startswith('Marked'):
                 parts.append(self.marked(els))
+            elif a.startswith('Held') and els[-1].kind == 'call':
+                parts.append(f'held ({self.step_of(els[-1])}) ({self.marked(els[:-1])})')
+            elif a.startswith('Held'):
+                parts.append(f'held-now ({self.ready(els)}) ({self.marked(els)})')
             elif a.startswith('(Next') and self.counted():
                 given = self.pre(els[0], 'Next')
                 parts.append(f'record {{ is = {given} .is; small = {given} .small }}')
@@ -472,6 +542,7 @@ class Walk:
         return parts[0] if len(parts) == 1 else '(' + ', '.join(parts) + ')'
 
     def answer(self, need):
+        self.need = need
         els = self.elements(self.places.need[need])
         base = re.sub(r'-\d+$', '', need)
         if base.endswith('-requires'):
@@ -548,8 +619,8 @@ class Walk:
             return self.words['unfold']
         loop = self.find_loop(self.tree)
         more = [] if not loop else ['while-turn'] if loop[0] == 'while' else [loop[1]]
-        names = [self.fn.head] + more + self.opened + (['grammar'] if self.counted() else [])
-        return [n for n in dict.fromkeys(names) if n in UNFOLDABLE]
+        names = [self.fn.head] + more + self.opened + (['grammar'] if self.counted() else []) + self.words.get('cuts', [])
+        return [n for n in dict.fromkeys(names) if n in UNFOLDABLE | CUT]
 
     def invariant(self):
         if 'inv' in self.words:
@@ -727,7 +798,8 @@ HEAD = '''-- Written by tools/walk.py from the code and its program; docs/CONTRI
 
 def uses(walks):
     """The names that any walk may cite."""
-    gram = sorted(set(n for w in walks for n in w.unfolds() + w.words.get('names', []) + list(w.words.get('wrap', {}))))
+    gram = sorted(set(n for w in walks for n in w.unfolds() + w.words.get('names', []) + list(w.words.get('wrap', {}))) - CUT)
+    cuts = sorted(set(n for w in walks for n in w.unfolds()) & CUT)
     more = sorted(set(l for w in walks for l in w.words.get('use', [])))
     heads = sorted(set(w.known[e].head + '-further' for w in walks for e in w.callees()))
     return HEAD + f'''use Prim.Native.Nat.{{zero, suc, _+_, _-_, _*_, _≤_, _<_}}
@@ -738,14 +810,16 @@ use native.Mathlib.Omega.{{arith}}
 use borrow.Author.Needs.{{needs}}
 use borrow.Author.Tests.{{eq-eqb, ne-eqb}}
 use Rattle.definition.specs.Classes.{{isPathComponent, isPat, isPatOrRest, isUsePart, isSelectArm}}
-use Rattle.definition.specs.Prog.{{repeat}}
+use Rattle.definition.specs.Modes.{{Brace, Range}}
+use Rattle.definition.specs.Prog.{{mark, repeat}}
 use Rattle.definition.specs.Grammar.{{{', '.join(gram)}}}
 use Rattle.laws.specs.Progress.{{{', '.join(heads + ['path-component-some', 'use-path-some', 'object-key-some', 'glues-some', 'recovering-some'])}}}
 use Rattle.kinds.specs.Laws.{{not-eof as none-eof, at-eof}}
+use Rattle.tape.specs.declared.Tape.{{Tape}}
 use Rattle.tape.specs.View.{{Step, Ran, said}}
-use Rattle.tape.specs.Steps.{{Loop, Onward, fuel, burns, here-few, marked-now, step-marked, both, cut, refusal, ends, if-yes, if-no, look, touch, spot, ask, ask-glued, ask-second, ask-second-as, scoped, unscoped, nothing, answered, answered-as, refuses, refused-tape, inv-start, inv-again, inv-end, last, last-cut}}
+use Rattle.tape.specs.Steps.{{Loop, Onward, fuel, burns, here-few, marked-now, step-marked, held, held-now, followed, follows-len, not-key, both, cut, refusal, ends, if-yes, if-no, look, touch, spot, ask, ask-glued, ask-second, ask-second-as, scoped, unscoped, nothing, answered, answered-as, says, kept, refuses, refused-tape, inv-start, inv-again, inv-end, last, last-cut}}
 use Rattle.tape.specs.Counted.{{deep, entered, entered-bool, barred, goes-on, goes-some, goes-saw, goes-glued, and-on}}
-''' + ''.join(l + '\n' for l in more)
+''' + (f"use Rattle.grammar.specs.Cuts.{{{', '.join(cuts)}}}\n" if cuts else '') + ''.join(l + '\n' for l in more)
 
 
 # ## Cycles: members share one proof, and a number falls at each call
@@ -757,7 +831,8 @@ def ranks(members, known):
         f = known[k]
         text = open(f"crates/{f.crate}/src/{(f.module or 'lib') + '.rt'}").read()
         body = re.search(r'fn ' + f.name + r'\(.*?\n\}\n', text, re.S).group()
-        called = set(re.findall(r'\b(\w+)\(', body)) - {f.name}
+        full = {b: a for a, b in re.findall(r'^(?:pub )?use self::(\w+) as (\w+);', text, re.M)}
+        called = {full.get(n, n) for n in re.findall(r'\b(\w+)\(', body)} - {f.name}
         counted = 'tape.left' in body
         calls[k] = set() if counted else {m for m in members if known[m].name in called}
     rank = {}
@@ -808,6 +883,8 @@ def main():
         if os.path.isdir(f'crates/{c}/src'):
             known.update(contracts(c))
     defs = programs.read(GRAMMAR)
+    if os.path.exists(CUTS):
+        defs.update(programs.read(CUTS))
     table = {}
     if os.path.exists(f'tools/words/{crate}.py'):
         exec(open(f'tools/words/{crate}.py').read(), table)
@@ -848,11 +925,12 @@ def round_of(crate, folder, only, known, defs, words, done):
             lts = f"{folder}/Rattle.{crate}.proofs/{at.split(f'crates/{crate}/', 1)[1]}/Lts.antt"
             if not f or f.crate != crate or w.get('by-hand') or only and name not in only or not os.path.exists(lts):
                 continue
-            if not f.rule and w.get('needs'):
+            if (not f.rule or w.get('by-words')) and w.get('needs'):
                 fill(path, by_words(Places(lts), w))
                 head(path, HEAD + ''.join(l + '\n' for l in w['use']))
                 done.add(path)
                 fresh += 1
+                continue
             if not f.rule:
                 continue
             walk = Walk(f, Places(lts), known, defs, w)

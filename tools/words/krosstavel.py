@@ -37,8 +37,8 @@ LIMIT = 'valid-{} (@args .limit) (@is-limit .ensures)'
 BOTH = 'rw (@is-limit .ensures, @is-separator .ensures)'
 # a separator that is let pass is a token's kind; the code's kind is what it is treated as
 FINE = f'fine (isLimit (@args .limit)) (@args .separator) (sym ({BOTH}) ∙ checked-valid (@check .ensures) (@if1 .left))'
-EXPRS = entry('exprs', 'checked-valid, fine, treated-is', 'exprs (@args .separator)', BOTH, f'treated-is ({FINE}) (@treated .ensures), ')
-EXPRS['needs']['cast-s'] = f'omega (arith, {FINE} .small)'
+EXPRS = entry('exprs', 'checked-valid, fine, treated-some', 'exprs (@args .separator)', BOTH, f'treated-some ({FINE}), ')
+EXPRS['needs']['cast-exprs-rule'] = f'omega (arith, {FINE} .small)'
 EXPRS['use'] += ['use mathlib.Core.Path.{sym, _∙_}', 'use native.Mathlib.Omega.{arith}']
 
 WORDS = {
@@ -47,7 +47,7 @@ WORDS = {
         'inv': WHILE.format('while not-eof (separated separator)'),
         'names': ['while', 'not-eof', 'separated'],
         # the code's kind is what the separator is treated as
-        'wrap': {'bump-while': 'same-step (ap bump-while (@pre .1 .is)) ({})'},
+        'wrap': {'bump-while': 'same-step (ap bump-while (@treated .ensures)) ({})'},
         'use': [START],
     },
     'format-rule': {'inv': WHILE.format('while not-eof bump'), 'names': ['while', 'not-eof'], 'use': [START, 'use Rattle.definition.specs.Prog.{bump}']},

@@ -24,7 +24,7 @@ pub record Refusal (why token n number place count : ℕ) (table : List ℕ) : T
   pub rows-are : count ≡ 0
   pub table-is : table ≡ replicate n 0
 
-flat-length : (l : List Row) → length (flat l) ≡ width * length l
+pub flat-length : (l : List Row) → length (flat l) ≡ width * length l
 unfolding flat elements
 flat-length [] = omega arith
 flat-length (r ∷ l) = omega (arith, flat-length l)

@@ -1,3 +1,5 @@
 pub mod Left
 pub mod Accepted
+pub mod Count
+pub mod ShutOut
 pub mod OnLine

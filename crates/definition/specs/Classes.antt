@@ -1,30 +1,42 @@
--- Classes of kinds: the macros `ws!`, `lit!`, `path_component!`, `object_key!` of grammar.rs and its tests on kinds. Each is a list of names.
--- k is a kind, g the kind glued to it, j the second next; 0, Eof, is a member of no class.
+-- Classes of kinds: the macros `ws!`, `lit!`, `path_component!`, `object_key!` of grammar.rs and its tests on kinds, made of lists of names.
+-- k is the next token's kind, g the kind glued to it; in `isStmtRecovering` j is the second next, and elsewhere a kind that k is compared with; `kind` is a node's.
+-- Eof, 0, is a member of no class of tokens (kinds' Laws `at-eof`).
 -- Assumes nothing.
 use Prim.Native.Nat.{ℕ}
 use mathlib.Core.Bool.{Bool, true, false, cond, not, _&&_, _||_}
-use mathlib.Core.List.{List, [], _∷_, _++_}
+use mathlib.Core.List.{List, [], _∷_}
 use lib.Dec.{leb, eqb}
-use Rattle.definition.specs.Kinds.{Eof, K-ident, K-::, K-super, K-crate, K-self, K-Self, K-true, K-false, K-number, K-str, K-bytestr, K-char, K-byte, K-Whitespace, K-Comment, K-MultilineComment, K-Other, K-paren, K-bracket, K-brace, K-brace-end, K-semi, K-:, K-!, K-dash, K-&, K-*, K-label, K-#, K-||, K-|, K-dotdot, K-dotdot=, K-underscore, K-OpenEmpty, K-TemplateString, K-async, K-break, K-const, K-continue, K-default, K-enum, K-fn, K-for, K-if, K-impl, K-let, K-loop, K-match, K-mod, K-pub, K-return, K-select, K-struct, K-use, K-while, K-yield, ExprFor, ExprRange, ExprRangeFrom, ExprRangeFull, ExprRangeInclusive, ExprRangeTo, ExprRangeToInclusive, ExprWhile}
+use Rattle.definition.specs.Modes.{Brace, Range, isBrace, isRanged}
+use Rattle.definition.specs.Kinds.{Eof, K-ident, K-::, K-super, K-crate, K-self, K-Self, K-true, K-false, K-number, K-str, K-bytestr, K-char, K-byte, K-Whitespace, K-Comment, K-MultilineComment, K-Other, K-paren, K-bracket, K-brace, K-brace-end, K-semi, K-:, K-!, K-dash, K-&, K-*, K-label, K-#, K-||, K-|, K-dotdot, K-dotdot=, K-underscore, K-OpenEmpty, K-TemplateString, K-async, K-break, K-const, K-continue, K-default, K-enum, K-fn, K-for, K-if, K-impl, K-let, K-loop, K-match, K-mod, K-pub, K-return, K-select, K-struct, K-use, K-while, tokens, ExprFor, ExprRange, ExprRangeFrom, ExprRangeFull, ExprRangeInclusive, ExprRangeTo, ExprRangeToInclusive, ExprWhile}
 
 unfoldable pub among : ℕ → List ℕ → Bool
 among k [] = false
 among k (x ∷ l) = elim (eqb k x) [ true ↦ true | false ↦ among k l ]
 
--- a kind and the one glued to it; a kind that is taken only where a mode allows it
+-- a kind and the one glued to it
 unfoldable pub glues : ℕ → ℕ → ℕ → ℕ → Bool
 glues a b k g = eqb k a && eqb g b
 
-unfoldable pub allows : Bool → ℕ → ℕ → Bool
-allows mode j k = eqb k j && mode
+-- Kinds that a guard of a `match` arm lets through: `K!['{'] if matches!(brace, Brace::Yes)`, `K![..] if matches!(range, Range::Yes)` and `..=` so, `K![ident] if m.is_const`
+unfoldable pub bracedBy : Brace → ℕ → Bool
+bracedBy brace k = eqb k K-brace && isBrace brace
+
+unfoldable pub rangedBy : Range → ℕ → ℕ → Bool
+rangedBy range j k = eqb k j && isRanged range
+
+unfoldable pub namedConst : Bool → ℕ → Bool
+namedConst is-const k = eqb k K-ident && is-const
 
 -- 1 to 127: a token's kind
 unfoldable pub isToken : ℕ → Bool
 isToken k = leb 1 k && leb k 127
 
--- Assigned numbers end with `yield`. An unassigned one is treated as Other is.
+-- A number that no token kind has is treated as Other is. (Eof stays Eof.)
+unfoldable pub isAssigned : ℕ → Bool
+isAssigned k = among k (Eof ∷ tokens)
+
 unfoldable pub treated : ℕ → ℕ
-treated k = cond (leb k K-yield) k K-Other
+treated k = cond (isAssigned k) k K-Other
 
 -- ws!
 unfoldable pub isTrivia : ℕ → Bool
@@ -55,7 +67,7 @@ isPat k g =
     || eqb k K-dash && eqb g K-number || eqb k K-# && eqb g K-brace
 
 -- is_expr_with
-unfoldable pub isExprWith : Bool → Bool → ℕ → ℕ → Bool
+unfoldable pub isExprWith : Brace → Range → ℕ → ℕ → Bool
 isExprWith brace range k g =
     isPathComponent k
     || among k (K-async ∷ K-break ∷ K-continue ∷ K-for ∷ K-if ∷ K-let ∷ K-loop ∷ K-match ∷ K-return ∷ K-select ∷ K-while ∷ [])
@@ -63,8 +75,8 @@ isExprWith brace range k g =
     || among k (K-|| ∷ K-| ∷ K-# ∷ K-dash ∷ K-! ∷ K-& ∷ K-* ∷ [])
     || eqb k K-label && eqb g K-:
     || among k (K-OpenEmpty ∷ K-paren ∷ K-bracket ∷ [])
-    || eqb k K-brace && brace
-    || among k (K-dotdot ∷ K-dotdot= ∷ []) && range
+    || eqb k K-brace && isBrace brace
+    || among k (K-dotdot ∷ K-dotdot= ∷ []) && isRanged range
     || eqb k K-TemplateString
 
 -- is_range

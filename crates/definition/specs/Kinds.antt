@@ -2,6 +2,7 @@
 -- (A name can hold no bracket, dot, comma or semicolon, and `--` begins a comment: those are spelt out.)
 -- Assumes nothing.
 use Prim.Native.Nat.{ℕ}
+use mathlib.Core.List.{List, [], _∷_}
 
 -- past the last token
 abbrev pub Eof : ℕ
@@ -388,6 +389,18 @@ K-while = 94
 -- yield
 abbrev pub K-yield : ℕ
 K-yield = 95
+
+-- every token's kind, by name: a number that is not among them is unassigned (`tools/check-kinds` compares)
+unfoldable pub tokens : List ℕ
+tokens =
+    K-ident ∷ K-:: ∷ K-super ∷ K-crate ∷ K-self ∷ K-Self ∷ K-true ∷ K-false ∷ K-number ∷ K-str ∷ K-bytestr ∷ K-char ∷
+    K-byte ∷ K-Whitespace ∷ K-Comment ∷ K-MultilineComment ∷ K-Other ∷ K-paren ∷ K-paren-end ∷ K-bracket ∷ K-bracket-end ∷ K-brace ∷ K-brace-end ∷ K-comma ∷
+    K-dot ∷ K-semi ∷ K-: ∷ K-= ∷ K-! ∷ K-dash ∷ K-& ∷ K-* ∷ K-? ∷ K-label ∷ K-# ∷ K-< ∷
+    K-> ∷ K-+ ∷ K-/ ∷ K-% ∷ K-== ∷ K-!= ∷ K-<= ∷ K->= ∷ K-&& ∷ K-|| ∷ K-<< ∷ K->> ∷
+    K-^ ∷ K-| ∷ K-as ∷ K-is ∷ K-not ∷ K-+= ∷ K-dash= ∷ K-*= ∷ K-/= ∷ K-%= ∷ K-&= ∷ K-^= ∷
+    K-|= ∷ K-<<= ∷ K->>= ∷ K-dotdot ∷ K-dotdot= ∷ K-=> ∷ K-underscore ∷ K-OpenEmpty ∷ K-CloseEmpty ∷ K-TemplateString ∷ K-async ∷ K-await ∷
+    K-break ∷ K-const ∷ K-continue ∷ K-default ∷ K-else ∷ K-enum ∷ K-fn ∷ K-for ∷ K-if ∷ K-impl ∷ K-in ∷ K-let ∷
+    K-loop ∷ K-match ∷ K-mod ∷ K-move ∷ K-pub ∷ K-return ∷ K-select ∷ K-struct ∷ K-use ∷ K-while ∷ K-yield ∷ []
 
 -- ## Nodes, 128 to 255
 

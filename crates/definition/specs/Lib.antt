@@ -1,4 +1,5 @@
 pub mod Kinds
+pub mod Modes
 pub mod Classes
 pub mod Operators
 pub mod Table

@@ -1,7 +1,7 @@
 -- The operators of expr_binary.rs, as 01's table has them.
 -- Assumes nothing.
-use Prim.Native.Nat.{ℕ, _+_}
-use mathlib.Core.Bool.{Bool, true, false, cond, not, _&&_, _||_}
+use Prim.Native.Nat.{ℕ}
+use mathlib.Core.Bool.{Bool, true, false, cond, not, _&&_}
 use mathlib.Core.List.{List, [], _∷_}
 use lib.Dec.{ltb, eqb}
 use Rattle.definition.specs.Kinds.{K-&, K-*, K-<, K->, K-+, K-dash, K-/, K-%, K-==, K-!=, K-<=, K->=, K-&&, K-||, K-<<, K->>, K-^, K-|, K-as, K-is, K-not, K-+=, K-dash=, K-*=, K-/=, K-%=, K-&=, K-^=, K-|=, K-<<=, K->>=}
@@ -43,9 +43,9 @@ from-slice k j = record { binding = bindingIn k bindings; tokens = cond (eqb k K
 unfoldable pub isNone : Op → Bool
 isNone op = eqb (op .binding) 0
 
--- no operator, or one that binds less than `least`
+-- whether it binds less than `least`
 unfoldable pub isBelow : ℕ → Op → Bool
-isBelow least op = isNone op || ltb (op .binding) least
+isBelow least op = ltb (op .binding) least
 
 -- whether the second operator nests under the first, and whether the two need parentheses
 unfoldable pub isTighter : Op → Op → Bool

@@ -6,7 +6,7 @@ use mathlib.Core.List.{List, [], _∷_, _++_}
 use lib.ListN.{length, replicate}
 use lib.Dec.{leb, eqb}
 use Rattle.definition.specs.Classes.{isToken, isTrivia}
-use Rattle.definition.specs.Tape.{In, Row, State, Out, ok, refused, guard, capacity, elements}
+use Rattle.definition.specs.Tape.{In, Row, State, Out, ok, refused, fault, guard, capacity, elements}
 use Rattle.definition.specs.Prog.{Prog, eval, call}
 use Rattle.definition.specs.Grammar as grammar
 
@@ -71,17 +71,21 @@ unfoldable pub flat : List Row → List ℕ
 flat [] = []
 flat (r ∷ l) = elements r ++ flat l
 
+-- (A fault, which never comes out, has a number that no u32 is: 0 means acceptance alone.)
 unfoldable pub numberOf : Out (Unit {0}) → ℕ
 numberOf (ok a s) = 0
 numberOf (refused n pl) = n
+numberOf (fault w) = 4294967296
 
 unfoldable pub placeOf : Out (Unit {0}) → ℕ
 placeOf (ok a s) = 0
 placeOf (refused n pl) = pl
+placeOf (fault w) = 0
 
 unfoldable pub rowsOf : Out (Unit {0}) → List Row
 rowsOf (ok a s) = s .out
 rowsOf (refused n pl) = []
+rowsOf (fault w) = []
 
 -- the rows, then zeros; after a refusal zeros alone
 unfoldable pub tableOf : ℕ → Out (Unit {0}) → List ℕ

@@ -1,24 +1,32 @@
 -- The language of tape programs, in which Grammar.antt writes the rules, and what a program means.
 -- Assumes nothing.
 use Prim.Native.Nat.{ℕ, zero, suc, _-_}
-use mathlib.Core.Bool.{Bool, true, false}
+use mathlib.Core.Bool.{Bool}
 use mathlib.Core.Logic.{_⊎_, inl, inr}
 use lib.ListN.{length}
-use lib.Dec.{ltb}
+use lib.Dec.{ltb, eqb}
+use Rattle.definition.specs.Modes.{Brace, Range, Binary, ExprCx}
 use Rattle.definition.specs.Operators.{Op}
-use Rattle.definition.specs.Tape.{In, State, Out, ok, refused, andThen, choose, guard, hereAt, nthAt, gluedAt, flushAt, bumpAt, closeAt}
+use Rattle.definition.specs.Tape.{In, State, Out, ok, refused, fault, never-ends, wrong-mark, andThen, choose, hereAt, nthAt, gluedAt, flushAt, bumpAt, closeAt}
 
--- The six rules whose entry counts as depth, with their modes: brace, range, binary, recovery; operator, least binding, brace, recovery
+-- The six rules whose entry counts as depth, with their modes; of expr_binary the operator and the least binding too
 pub data Rule : Type 0 where
   stmt-rule : Rule
   item-use-rule : Rule
   pat-rule : Rule
   path-rule : Rule
-  outer-rule : Bool → Bool → Bool → Bool → Rule
-  binary-rule : Op → ℕ → Bool → Bool → Rule
+  outer-rule : Brace → Range → Binary → ExprCx → Rule
+  binary-rule : Op → ℕ → Brace → ExprCx → Rule
 
--- `scope p` is a checkpoint: it writes pending trivia and marks the row count, and p runs with that mark. `close k` in p closes over all
--- rows since the mark. A mark is thus never a number that a rule could mix up.
+-- a mark: how many rows stood when it was taken
+pub record Mark : Type 0 where
+  pub row : ℕ
+
+abbrev pub mark : ℕ → Mark
+mark n = record { row = n }
+
+-- `scope f` is a checkpoint: it writes pending trivia, marks the row count, and goes on with that mark as f says. `close c k` closes over all rows since the mark c,
+-- which must be that of the checkpoint it stands in: a checkpoint put in between does not move the close, but is a fault, as soon as a row stands between the two.
 pub data Prog : Type 0 → Type 1 where
   done : {A : Type 0} → A → Prog A
   seq : {A B : Type 0} → Prog A → (A → Prog B) → Prog B
@@ -27,8 +35,8 @@ pub data Prog : Type 0 → Type 1 where
   here : Prog ℕ
   flush : Prog (Unit {0})
   bump : Prog (Unit {0})
-  scope : {A : Type 0} → Prog A → Prog A
-  close : ℕ → Prog (Unit {0})
+  scope : {A : Type 0} → (Mark → Prog A) → Prog A
+  close : Mark → ℕ → Prog (Unit {0})
   stop : {A : Type 0} → ℕ → ℕ → Prog A
   enter : Rule → Prog ℕ
   test : {A : Type 0} → Bool → Prog A → Prog A → Prog A
@@ -44,17 +52,17 @@ Calls = Rule → State → Out ℕ
 unfoldable pub left : In → State → ℕ
 left i s = length (i .kinds) - s .at
 
--- What follows a turn that began at s: the next turn, if this one wrote a token, and otherwise refusal 0, "never ends"
+-- What follows a turn that began at s: the next turn, if this one wrote a token; otherwise the loop would never end
 unfoldable pub turn : {A B : Type 0} → In → State → (A → State → Out B) → A ⊎ B → State → Out B
-turn i s k (inl a) t = guard (ltb (left i t) (left i s)) 0 0 (λ u. k a t)
+turn i s k (inl a) t = choose (ltb (left i t) (left i s)) (λ u. k a t) (λ u. fault never-ends)
 turn i s k (inr b) t = ok b t
 
 -- at most n turns of f
 unfoldable pub turns : {A B : Type 0} → In → ℕ → (A → State → Out (A ⊎ B)) → A → State → Out B
-turns i zero f a s = refused 0 0
+turns i zero f a s = fault never-ends
 turns i (suc n) f a s = andThen (f a s) (turn i s (λ b t. turns i n f b t))
 
--- the program's outcome from s, with m the mark of the scope that it stands in
+-- the program's outcome from s, with m the mark of the checkpoint that it stands in
 unfoldable pub eval : {A : Type 0} → In → Calls → ℕ → Prog A → State → Out A
 eval i e m (done a) s = ok a s
 eval i e m (seq p f) s = andThen (eval i e m p s) (λ a t. eval i e m (f a) t)
@@ -63,8 +71,8 @@ eval i e m glued s = ok (gluedAt i s) s
 eval i e m here s = ok (hereAt i s) s
 eval i e m flush s = flushAt i s
 eval i e m bump s = bumpAt i s
-eval i e m (scope p) s = andThen (flushAt i s) (λ u t. eval i e (length (t .out)) p t)
-eval i e m (close k) s = closeAt i m k s
+eval i e m (scope f) s = andThen (flushAt i s) (λ u t. eval i e (length (t .out)) (f (mark (length (t .out)))) t)
+eval i e m (close c k) s = choose (eqb (c .row) m) (λ u. closeAt i m k s) (λ u. fault wrong-mark)
 eval i e m (stop n pl) s = refused n pl
 eval i e m (enter r) s = e r s
 eval i e m (test b p q) s = choose b (λ u. eval i e m p s) (λ u. eval i e m q s)
@@ -92,8 +100,8 @@ _>>_ p q = seq p (λ a. q)
 abbrev pub if_then_else_ : {A : Type 0} → Bool → Prog A → Prog A → Prog A
 if_then_else_ b p q = test b p q
 
-abbrev pub checkpoint : {A : Type 0} → Prog A → Prog A
-checkpoint p = scope p
+abbrev pub checkpoint : {A : Type 0} → (Mark → Prog A) → Prog A
+checkpoint f = scope f
 
 abbrev pub loop : {A B : Type 0} → (A → Prog (A ⊎ B)) → A → Prog B
 loop f a = repeat f a

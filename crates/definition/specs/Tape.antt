@@ -38,14 +38,21 @@ pub record State : Type 0 where
   pub byte : ℕ
   pub out : List Row
 
--- where a step ends: an answer and a state, or a refusal's number and place
+-- What no program of the grammar does: go round in a loop without taking a token, close over another mark than that of the checkpoint it stands in
+pub data Fault : Type 0 where
+  never-ends : Fault
+  wrong-mark : Fault
+
+-- where a step ends: an answer and a state, or a refusal's number and place. (A fault never comes out: `never-faults` in crates/trees.)
 pub data Out (A : Type 0) : Type 0 where
   ok : A → State → Out A
   refused : ℕ → ℕ → Out A
+  fault : Fault → Out A
 
 unfoldable pub andThen : {A B : Type 0} → Out A → (A → State → Out B) → Out B
 andThen (ok a s) f = f a s
 andThen (refused n pl) f = refused n pl
+andThen (fault w) f = fault w
 
 -- A test with two ways on, and a test that refuses. (The ways stand behind a λ, so that only the one taken is computed.)
 unfoldable pub choose : {A : Type 0} → Bool → (Unit {0} → Out A) → (Unit {0} → Out A) → Out A

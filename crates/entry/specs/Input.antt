@@ -1,7 +1,7 @@
 -- Refusals 1 to 5: the separator, the two searches over the input, and what the guards come to.
 -- Assumes nothing.
-use Prim.Native.Nat.{ℕ, suc, _+_, _-_, _≤_, _<_}
-use mathlib.Core.Path.{_≡_, refl, sym, _∙_}
+use Prim.Native.Nat.{ℕ, zero, suc, _+_, _-_, _≤_, _<_}
+use mathlib.Core.Path.{_≡_, refl, ap, sym, _∙_}
 use mathlib.Core.Bool.{Bool, true, false, not, _&&_}
 use mathlib.Core.List.{List, [], _∷_}
 use native.Mathlib.Omega.{arith}
@@ -12,9 +12,9 @@ use lib.Dec.{leb, eqb}
 use borrow.Author.Tests.{not-true, not-false, le-leb, lt-leb, leb-true, eq-eqb, ne-eqb}
 use Rattle.definition.specs.Classes.{isToken, isTrivia}
 use Rattle.definition.specs.Tape.{Out, refused, guard}
-use Rattle.definition.specs.Parse.{exprs, isEntry, firstNot, firstOver, admitted}
+use Rattle.definition.specs.Parse.{exprs, isEntry, firstNot, firstOver, admitted, numberOf, placeOf}
 use Rattle.laws.specs.Sizes.{total}
-use Rattle.entry.specs.declared.Fault.{Fault}
+use Rattle.entry.specs.declared.Refusal.{Refusal}
 use Rattle.entry.specs.Round.{Checked}
 
 -- ## The separator
@@ -100,7 +100,7 @@ over-none n (x ∷ l) e = go (leb x n) refl (over-none (n - x) l)
 
 -- ## Refusals 1 to 5
 
-module _ {ks ls : List ℕ} {valid : Bool} {r : Fault} where
+module _ {ks ls : List ℕ} {valid : Bool} {r : Refusal} where
   -- a refusal n + 1 at pl, whatever follows
   refusing : (n pl : ℕ) → ((k : Unit {0} → Out (Unit {0})) → admitted valid ks ls k ≡ refused (suc n) pl) → r ≡ record { number = suc n; place = pl } → Checked valid ks ls r
   refusing n pl f q =
@@ -108,6 +108,7 @@ module _ {ks ls : List ℕ} {valid : Bool} {r : Fault} where
       record {
         passes = λ z. absurd (omega arith);
         stops = λ z k. f k;
+        nowhere = λ z. absurd (omega arith);
         sized = λ z. absurd (omega arith);
       }
 
@@ -148,5 +149,31 @@ module _ {ks ls : List ℕ} {valid : Bool} {r : Fault} where
               record {
                 passes = λ z k. rw (sym e, sym f, not-false valid v, eq-eqb (length ks) (length ls) p, le-leb (length ks) 65535 m, eq-eqb bad (length ks) t, g);
                 stops = λ z. absurd (z refl);
+                nowhere = λ z. refl;
                 sized = λ z. record { pair = sym p; few = m; small = over-none 16777216 ls (sym f ∙ (h ∙ p)) };
               }
+
+-- ## Nothing is left open
+
+-- what passes does not stop: a refusal that follows would have to be one of the five
+not-both : {valid : Bool} {ks ls : List ℕ} {r x : Refusal} → Checked valid ks ls r → Checked valid ks ls x → r .number ≡ 0 → (x .number ≡ 0 → ⊥) → ⊥
+unfolding numberOf
+not-both {x = x} c d z y =
+    let after : (u : Unit {0}) → Out (Unit {0}) = λ u. refused (suc (x .number)) 0 in
+    omega (arith, ap numberOf (sym (c .passes z after) ∙ d .stops y after))
+
+-- any two faults that `check` is allowed are the same
+pub only-refusal : {valid : Bool} {ks ls : List ℕ} {r x : Refusal} → Checked valid ks ls r → Checked valid ks ls x → (r .number ≡ x .number) × (r .place ≡ x .place)
+unfolding numberOf placeOf
+only-refusal {valid} {ks} {ls} {r} {x} c d = go (r .number) (x .number) refl refl
+  where
+    after : (u : Unit {0}) → Out (Unit {0})
+    after u = refused 0 0
+
+    go : (n m : ℕ) → r .number ≡ n → x .number ≡ m → (r .number ≡ x .number) × (r .place ≡ x .place)
+    go zero zero e f = (e ∙ sym f, c .nowhere e ∙ sym (d .nowhere f))
+    go zero (suc m) e f = absurd (not-both c d e (λ z. omega (arith, f)))
+    go (suc n) zero e f = absurd (not-both d c f (λ z. omega (arith, e)))
+    go (suc n) (suc m) e f =
+        let same = sym (c .stops (λ z. omega (arith, e)) after) ∙ d .stops (λ z. omega (arith, f)) after in
+        (ap numberOf same, ap placeOf same)

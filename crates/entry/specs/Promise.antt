@@ -4,7 +4,7 @@ use Prim.Native.Nat.{ℕ}
 use mathlib.Core.Path.{_≡_, refl, sym, _∙_}
 use mathlib.Core.List.{List}
 use lib.ListN.{length}
-use Rattle.definition.specs.Tape.{Out, ok, refused}
+use Rattle.definition.specs.Tape.{Out, ok, refused, fault}
 use Rattle.definition.specs.Parse.{Entry, parse, numberOf, placeOf, rowsOf, tableOf}
 use Rattle.entry.specs.declared.Outcome.{Outcome}
 use Rattle.entry.specs.declared.Outcome.the-variants.{Tree, Refused}
@@ -32,10 +32,11 @@ pub record Answers (o : Out (Unit {0})) (n number place rows : ℕ) (tab : List 
   pub rows-is : rows ≡ length (rowsOf o)
   pub table-is : tab ≡ tableOf n o
 
--- what the definition's outcome is for the code
+-- What the definition's outcome is for the code. (A fault never comes out; its number is no u32, so that no code could give it.)
 unfoldable pub outcomeOf : Out (Unit {0}) → Outcome
 outcomeOf (ok a s) = Tree (length (s .out))
 outcomeOf (refused n pl) = Refused n pl
+outcomeOf (fault w) = Refused (numberOf (fault w)) 0
 
 -- the same of the code's outcome r
 pub record Ends (o : Out (Unit {0})) (n : ℕ) (r : Outcome) (tab : List ℕ) : Type 0 where
@@ -46,6 +47,7 @@ pub ends : {o : Out (Unit {0})} {n : ℕ} {r : Outcome} {tab : List ℕ} → r �
 unfolding outcomeOf numberOf placeOf rowsOf
 ends {o = ok a s} e t = rw e record { is = refl; answers = record { number-is = refl; place-is = refl; rows-is = refl; table-is = t } }
 ends {o = refused n pl} e t = rw e record { is = refl; answers = record { number-is = refl; place-is = refl; rows-is = refl; table-is = t } }
+ends {o = fault w} e t = rw e record { is = refl; answers = record { number-is = refl; place-is = refl; rows-is = refl; table-is = t } }
 
 -- What the public calls promise. n is how many elements the table has that is lent.
 abbrev pub Parsed : Entry → List ℕ → List ℕ → ℕ → ℕ → Outcome → List ℕ → Type 0

@@ -9,12 +9,13 @@ use Rattle.definition.specs.Tape.{Out, refused}
 use Rattle.definition.specs.Parse.{admitted, start}
 use Rattle.tape.specs.View.{stateOf, Sized, Ready}
 use Rattle.tape.specs.declared.Tape.{Tape}
-use Rattle.entry.specs.declared.Fault.{Fault}
+use Rattle.entry.specs.declared.Refusal.{Refusal}
 
--- refusals 1 to 5, whatever follows them: number 0 where there is none
-pub record Checked (valid : Bool) (ks ls : List ℕ) (r : Fault) : Type 0 where
+-- Refusals 1 to 5, whatever follows them: number and place 0 where there is none. (`only-refusal` in Input: nothing is left open.)
+pub record Checked (valid : Bool) (ks ls : List ℕ) (r : Refusal) : Type 0 where
   pub passes : r .number ≡ 0 → (k : Unit {0} → Out (Unit {0})) → admitted valid ks ls k ≡ k tt
   pub stops : (r .number ≡ 0 → ⊥) → (k : Unit {0} → Out (Unit {0})) → admitted valid ks ls k ≡ refused (r .number) (r .place)
+  pub nowhere : r .number ≡ 0 → r .place ≡ 0
   pub sized : r .number ≡ 0 → Sized ks ls
 
 -- a tape from which a parse starts, over any table

@@ -6,9 +6,9 @@ use mathlib.Core.Bool.{Bool, _&&_}
 use mathlib.Core.List.{List}
 use native.Mathlib.Omega.{arith}
 use native.Mathlib.Nat.{min-le-left, min-le-right, mul-div-le}
-use lib.ListN.{length, replicate}
+use lib.ListN.{length}
 use lib.Seq.{drop-nil}
-use Rattle.definition.specs.Tape.{In, Row, Out, refused, capacity, leavesLen, startOf}
+use Rattle.definition.specs.Tape.{In, Row, refused, capacity, leavesLen, startOf}
 use Rattle.definition.specs.Prog.{Prog}
 use Rattle.definition.specs.Parse.{Entry, program, isLimit, parse, isEntry, admitted, run, start}
 use Rattle.laws.specs.Sizes.{total, Fits}
@@ -16,7 +16,7 @@ use Rattle.tape.specs.View.{inOf, stateOf, rowsIn, outOf, Sized, Begins, Step}
 use Rattle.tape.specs.Rows.{length-rows}
 use Rattle.tape.specs.declared.Tape.{Tape}
 use Rattle.entry.specs.declared.Outcome.{Outcome}
-use Rattle.entry.specs.declared.Fault.{Fault}
+use Rattle.entry.specs.declared.Refusal.{Refusal}
 use Rattle.entry.specs.Promise.{Ends, Parsed}
 use Rattle.entry.specs.Round.{Checked, Starts, Fitting}
 
@@ -56,7 +56,7 @@ fitting {r = r} {tab′ = tab′} w =
       few = λ z. omega (arith, w .ready z .fits .rows, length-rows (r .rows) tab′, min-le-right (length tab′ / 4) 4294967295);
     }
 
-module _ (e : Entry) (limit : ℕ) {valid : Bool} (v : valid ≡ isLimit limit && isEntry e) {ks ls : List ℕ} {f : Fault} (c : Checked valid ks ls f) (tab : List ℕ) where
+module _ (e : Entry) (limit : ℕ) {valid : Bool} (v : valid ≡ isLimit limit && isEntry e) {ks ls : List ℕ} {f : Refusal} (c : Checked valid ks ls f) (tab : List ℕ) where
   parse-is : parse e ks ls (length tab) limit ≡ admitted valid ks ls (λ u. run (inOf ks ls tab) limit 0 (program e) start)
   unfolding parse
   parse-is = rw v

@@ -27,7 +27,7 @@ pub struct Answer {
 }
 
 // What is wrong with an input before it is parsed: a refusal from 1 to 5, or number 0.
-pub struct Fault {
+pub struct Refusal {
     pub number: u32,
     pub place: u32,
 }
@@ -97,18 +97,18 @@ fn first_over(lens: &[u32]) -> usize
     i
 }
 
-fn found(number: u32, place: usize) -> Fault
+fn found(number: u32, place: usize) -> Refusal
     requires { ⌜ place ≤ 65535 ⌝ }
     ensures { λ r. ⌜ r ≡ record { number = number; place = place } ⌝ }
 {
-    Fault {
+    Refusal {
         number,
         place: place as u32,
     }
 }
 
 // Refusals 1 to 5, in their order; number 0 where the input passes. `valid` says that the limit and the separator are.
-pub fn check(valid: bool, kinds: &[u8], lens: &[u32]) -> Fault
+pub fn check(valid: bool, kinds: &[u8], lens: &[u32]) -> Refusal
     ensures { λ r. ⌜ Checked valid (now (kinds .entry)) (now (lens .entry)) r ⌝ }
 {
     if !valid {

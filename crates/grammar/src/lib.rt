@@ -1,147 +1,438 @@
 // The rules of grammar.rs that hold expressions, blocks and statements: one cycle of calls, proved equal to the definition together.
-// The toolchain joins the names of a cycle into one file name, which a library holds up to 249 bytes, so each is one or two letters. What each is called in the
-// definition (and, with `_` for `-`, in grammar.rs):
-//
-//   ex expr-with, ou outer-expr-with, ob outer-body, oc outer-chain, o outer-assign, ot outer-rest
-//   oo outer-op, on outer-binary, pr expr-primary, pk primary-kind, pq primary-group, pp primary-path
-//   q primary-prefix, ca closure-arguments, pu primary-unary, pw primary-word, pj primary-jump, pg primary-give
-//   p primary-block, pl primary-last, r range-to, ch expr-chain, d chain-step, li chain-link
-//   ps parenthesized, is items, x expr-list, eg empty-group, tg expr-tuple-or-group, u tuple-items
-//   oj expr-object, of object-fields, e expr-after, ei expr-if, en else-branches, eb else-branch
-//   el else-if, co condition, cd condition-let, ci condition-init, w expr-while, lp expr-loop
-//   fo expr-for, f for-in, ma expr-match, ml match-list, mc match-case, se expr-select
-//   sl select-list, sc select-case, sp select-pat, a expr-if-any, bi expr-binary, b binary-body
-//   rd operand, n nest, er expr-range, rr range-rest, bl block, bw block-with
-//   bo block-open, by block-body, bs block-stmts, st stmt, sb stmt-body, so stmt-outer
-//   si stmt-inner, sk stmt-kind, s stmt-block, s3 stmt-value, l local, h item-const
-//   it item-fn, i item-impl, im item-mod
-//
-// st, ou and bi are counted: the depth that is left falls at each.
+// The toolchain joins the names of a cycle into one file name, which a library holds up to 249 bytes. So a rule is declared under one or two letters, below a comment
+// with the Rust's name and line, and called by its full name, which the list of `use self::` gives it.
 ghost use mathlib.Core.Path.{_≡_};
 ghost use Prim.Native.Nat.{_<_};
-ghost use Rattle.definition.specs.Grammar.{binary-body, block, block-body, block-open, block-stmts, block-with, chain-link, chain-step, closure-arguments, condition, condition-init, condition-let, else-branch, else-branches, else-if, empty-group, expr-after, expr-binary, expr-chain, expr-for, expr-if, expr-if-any, expr-list, expr-loop, expr-match, expr-object, expr-primary, expr-range, expr-select, expr-tuple-or-group, expr-while, expr-with, for-in, item-const, item-fn, item-impl, item-mod, items, local, match-case, match-list, nest, object-fields, operand, outer-assign, outer-binary, outer-body, outer-chain, outer-expr-with, outer-op, outer-rest, parenthesized, primary-block, primary-give, primary-group, primary-jump, primary-kind, primary-last, primary-path, primary-prefix, primary-unary, primary-word, range-rest, range-to, select-case, select-list, select-pat, stmt, stmt-block, stmt-body, stmt-inner, stmt-kind, stmt-outer, stmt-value, tuple-items};
+ghost use Rattle.definition.specs.Prog.{mark as marking};
+ghost use Rattle.definition.specs.Grammar.{block, block-body, block-open, block-stmts, block-with, chain-link, chain-step, closure-arguments, condition, condition-init, condition-let, else-branch, else-branches, else-if, empty-group, expr-after, expr-binary, expr-binary-text, expr-chain, expr-for, expr-if, expr-if-any, expr-list, expr-loop, expr-match, expr-object, expr-primary, expr-range, expr-select, expr-tuple-or-group, expr-while, expr-with, for-in, item-const, item-fn, item-impl, item-mod, items, local, match-case, match-list, nest, object-fields, operand, outer-binary, outer-expr-with, outer-expr-with-text, parenthesized, primary-path, range-rest, range-to, select-case, select-list, select-pat, stmt, stmt-expr, stmt-mod, stmt-once, stmt-text, tuple-items, expr as exprProg};
+ghost use Rattle.kinds.specs.Modes.{braceOf, rangeOf, binaryOf, cxOf, listedOf};
 ghost use Rattle.kinds.specs.Ops.{opOf};
 ghost use Rattle.kinds.specs.Matchers.{matcherOf};
 ghost use Rattle.tape.specs.View.{said, Ready, Marked, Step, Ran};
-ghost use Rattle.grammar.specs.Looked.{Next, Small};
+ghost use Rattle.grammar.specs.Looked.{Next, Small, aheadOf};
+ghost use Rattle.grammar.specs.Cuts.{outer-assign, outer-chain, outer-op, outer-rest, primary-last, primary-sign, primary-word, stmt-inner, stmt-kind, stmt-outer};
 
 pub mod steps; // steps.rt: what calls no rule of the cycle
 
-use kinds::ANONYMOUS_OBJECT_KEY;
-use kinds::BANG;
-use kinds::BLOCK;
-use kinds::BLOCK_BODY;
-use kinds::BRACE;
-use kinds::BRACE_END;
-use kinds::BRACKET;
-use kinds::BRACKET_END;
-use kinds::BREAK;
-use kinds::CLOSE_EMPTY;
-use kinds::CLOSURE_ARGUMENTS;
-use kinds::COLON;
-use kinds::COMMA;
-use kinds::CONDITION;
-use kinds::CONTINUE;
-use kinds::DASH;
-use kinds::DEFAULT;
-use kinds::DOT;
-use kinds::DOT_DOT;
-use kinds::DOT_DOT_EQ;
-use kinds::ELSE;
-use kinds::ENUM;
-use kinds::EQ;
-use kinds::ERROR;
-use kinds::EXPR;
-use kinds::EXPR_ARRAY;
-use kinds::EXPR_ASSIGN;
-use kinds::EXPR_BINARY;
-use kinds::EXPR_BREAK;
-use kinds::EXPR_CALL;
-use kinds::EXPR_CHAIN;
-use kinds::EXPR_CLOSURE;
-use kinds::EXPR_CONTINUE;
-use kinds::EXPR_ELSE;
-use kinds::EXPR_ELSE_IF;
-use kinds::EXPR_EMPTY_GROUP;
-use kinds::EXPR_FOR;
-use kinds::EXPR_GROUP;
-use kinds::EXPR_IF;
-use kinds::EXPR_INDEX;
-use kinds::EXPR_LOOP;
-use kinds::EXPR_MATCH;
-use kinds::EXPR_MATCH_ARM;
-use kinds::EXPR_OBJECT;
-use kinds::EXPR_RANGE;
-use kinds::EXPR_RANGE_FROM;
-use kinds::EXPR_RANGE_FULL;
-use kinds::EXPR_RANGE_INCLUSIVE;
-use kinds::EXPR_RANGE_TO;
-use kinds::EXPR_RANGE_TO_INCLUSIVE;
-use kinds::EXPR_RETURN;
-use kinds::EXPR_SELECT;
-use kinds::EXPR_SELECT_ARM;
-use kinds::EXPR_TRY;
-use kinds::EXPR_TUPLE;
-use kinds::EXPR_UNARY;
-use kinds::EXPR_WHILE;
-use kinds::EXPR_YIELD;
-use kinds::FN;
-use kinds::FOR;
-use kinds::IDENT;
-use kinds::IF;
-use kinds::IMPL;
-use kinds::IN;
-use kinds::ITEM_CONST;
-use kinds::ITEM_ENUM;
-use kinds::ITEM_FILE_MOD;
-use kinds::ITEM_FN;
-use kinds::ITEM_IMPL;
-use kinds::ITEM_MOD;
-use kinds::ITEM_STRUCT;
-use kinds::ITEM_USE;
-use kinds::LET;
-use kinds::LIT;
-use kinds::LOCAL;
-use kinds::LOOP;
-use kinds::MATCH;
-use kinds::MOD;
-use kinds::NUMBER;
-use kinds::OPEN_EMPTY;
-use kinds::PAREN;
-use kinds::PAREN_END;
-use kinds::PATH;
-use kinds::PIPE;
-use kinds::PIPE_PIPE;
-use kinds::POUND;
-use kinds::QUESTION;
-use kinds::RETURN;
-use kinds::ROCKET;
-use kinds::SELECT;
-use kinds::SEMI;
-use kinds::STRUCT;
-use kinds::TEMPLATE;
-use kinds::TEMPLATE_STRING;
-use kinds::USE;
-use kinds::WHILE;
-use kinds::YIELD;
+use self::a as expr_if_any;
+use self::b as expr_binary_text;
+use self::bi as expr_binary;
+use self::bl as block;
+use self::bo as block_open;
+use self::bs as block_stmts;
+use self::bw as block_with;
+use self::by as block_body;
+use self::ca as closure_arguments;
+use self::cd as condition_let;
+use self::ch as expr_chain;
+use self::ci as condition_init;
+use self::co as condition;
+use self::d as chain_step;
+use self::e as expr_after;
+use self::eb as else_branch;
+use self::eg as empty_group;
+use self::ei as expr_if;
+use self::el as else_if;
+use self::en as else_branches;
+use self::er as expr_range;
+use self::ex as expr_with;
+use self::f as for_in;
+use self::fo as expr_for;
+use self::h as item_const;
+use self::i as item_impl;
+use self::im as item_mod;
+use self::is as items;
+use self::it as item_fn;
+use self::l as local;
+use self::li as chain_link;
+use self::lp as expr_loop;
+use self::ma as expr_match;
+use self::mc as match_case;
+use self::ml as match_list;
+use self::n as nest;
+use self::o as outer_assign;
+use self::ob as outer_expr_with_text;
+use self::oc as outer_chain;
+use self::of as object_fields;
+use self::oj as expr_object;
+use self::on as outer_binary;
+use self::oo as outer_op;
+use self::ot as outer_rest;
+use self::ou as outer_expr_with;
+pub use self::p as expr;
+use self::pl as primary_last;
+use self::pp as primary_path;
+use self::pr as expr_primary;
+use self::ps as parenthesized;
+use self::pu as primary_sign;
+use self::pw as primary_word;
+use self::r as range_to;
+use self::rd as operand;
+use self::rr as range_rest;
+use self::s as stmt_once;
+use self::sb as stmt_text;
+use self::sc as select_case;
+use self::se as expr_select;
+use self::si as stmt_inner;
+use self::sk as stmt_kind;
+use self::sl as select_list;
+use self::sm as stmt_mod;
+use self::so as stmt_outer;
+use self::sp as select_pat;
+pub use self::st as stmt;
+use self::steps::field_link;
+use self::steps::finish;
+use self::steps::macro_call;
+use self::steps::operator;
+use self::steps::recover;
+use self::steps::stmt_item;
+use self::sv as stmt_expr;
+use self::tg as expr_tuple_or_group;
+use self::u as tuple_items;
+use self::w as expr_while;
+use self::x as expr_list;
 use kinds::matcher::Matcher;
+use kinds::modes::Binary;
+use kinds::modes::Brace;
+use kinds::modes::ExprCx;
+use kinds::modes::Listed;
+use kinds::modes::Range;
 use kinds::operators::Op;
+use kinds::*;
 use tape::Tape;
 
+// ---- Statements
+
+// stmt (116): counted.
+pub fn st(tape: Tape, kinds: &[u8], lens: &[u32], table: &mut [u32]) -> Tape
+    requires { ⌜ Ready tape (now kinds) (now lens) (now table) ⌝ }
+    ensures { λ r. ⌜ Ran stmt tt tape r (now (kinds .entry)) (now (lens .entry)) (now (table .entry)) (now (table .exit)) ⌝ }
+{
+    let left = tape.left;
+    if left == 0 {
+        return tape.refuse(10, tape.next);
+    }
+    let mut t = tape;
+    t.left = left - 1;
+    t = stmt_once(t, kinds, lens, table);
+    t.left = left;
+    t
+}
+
+// stmt (116), and refusal 9 for one that takes no token.
+fn s(tape: Tape, kinds: &[u8], lens: &[u32], table: &mut [u32]) -> Tape
+    requires { ⌜ Ready tape (now kinds) (now lens) (now table) ⌝ }
+    ensures { λ r. ⌜ Ran stmt-once tt tape r (now (kinds .entry)) (now (lens .entry)) (now (table .entry)) (now (table .exit)) ⌝ }
+{
+    let before = tape.next;
+    let t = stmt_text(tape, kinds, lens, table);
+    if t.no != 0 {
+        return t;
+    }
+    let after = t.next;
+    if after == before {
+        return t.refuse(9, after);
+    }
+    t
+}
+
+// stmt (116).
+fn sb(tape: Tape, kinds: &[u8], lens: &[u32], table: &mut [u32]) -> Tape
+    requires { ⌜ Ready tape (now kinds) (now lens) (now table) ⌝ }
+    ensures { λ r. ⌜ Ran stmt-text tt tape r (now (kinds .entry)) (now (lens .entry)) (now (table .entry)) (now (table .exit)) ⌝ }
+{
+    let mut t = pieces::streams::inner_attributes(tape, kinds, lens, table);
+    if t.no != 0 {
+        return t;
+    }
+    t = stmt_outer(t, kinds, lens, table);
+    if t.no != 0 {
+        return t;
+    }
+    t.bump_while(SEMI, kinds, lens, table)
+}
+
+// stmt (116): from its mark c on.
+fn so(tape: Tape, kinds: &[u8], lens: &[u32], table: &mut [u32]) -> Tape
+    requires { ⌜ Ready tape (now kinds) (now lens) (now table) ⌝ }
+    ensures { λ r. ⌜ Ran stmt-outer tt tape r (now (kinds .entry)) (now (lens .entry)) (now (table .entry)) (now (table .exit)) ⌝ }
+{
+    let mut t = tape.mark(kinds, lens, table);
+    if t.no != 0 {
+        return t;
+    }
+    let c = t.rows;
+    t = pieces::streams::attributes(t, kinds, lens, table);
+    if t.no != 0 {
+        return t;
+    }
+    t = stmt_inner(t, kinds, lens, table);
+    if t.no != 0 {
+        return t;
+    }
+    let kind = t.ans;
+    t.close_at(c, kind, kinds, lens, table)
+}
+
+// stmt (116): from its mark inner_c on.
+fn si(tape: Tape, kinds: &[u8], lens: &[u32], table: &mut [u32]) -> Tape
+    requires { ⌜ Ready tape (now kinds) (now lens) (now table) ⌝ }
+    ensures { λ r. ⌜ Ran stmt-inner (r .ans) tape r (now (kinds .entry)) (now (lens .entry)) (now (table .entry)) (now (table .exit)) ⌝ }
+{
+    let mut t = tape.mark(kinds, lens, table);
+    if t.no != 0 {
+        return t;
+    }
+    let c = t.rows;
+    t = pieces::paths::modifiers(t, kinds, lens, table);
+    if t.no != 0 {
+        return t;
+    }
+    let constant = t.ans == 1;
+    let k = t.peek(kinds);
+    stmt_kind(t, c, constant, k, kinds, lens, table)
+}
+
+// stmt (116): its `match`. c is stmt's inner_c.
+fn sk(
+    tape: Tape,
+    c: usize,
+    constant: bool,
+    k: u8,
+    kinds: &[u8],
+    lens: &[u32],
+    table: &mut [u32],
+) -> Tape
+    requires { ⌜ Marked c tape (now table) × Ready tape (now kinds) (now lens) (now table) ⌝ }
+    ensures { λ r. ⌜ Step c (stmt-kind (marking c) constant k) (r .ans) tape r (now (kinds .entry)) (now (lens .entry)) (now (table .entry)) (now (table .exit)) ⌝ }
+{
+    match k {
+        LET => {
+            let mut t = local(tape, ExprCx::StmtCx, kinds, lens, table);
+            if t.no != 0 {
+                return t;
+            }
+            t.ans = LOCAL;
+            t
+        }
+        USE => {
+            let t = pieces::items::item_use(tape, kinds, lens, table);
+            stmt_item(t, c, ITEM_USE, kinds, lens, table)
+        }
+        STRUCT => {
+            let t = pieces::items::item_struct(tape, kinds, lens, table);
+            stmt_item(t, c, ITEM_STRUCT, kinds, lens, table)
+        }
+        ENUM => {
+            let t = pieces::items::item_enum(tape, kinds, lens, table);
+            stmt_item(t, c, ITEM_ENUM, kinds, lens, table)
+        }
+        FN => {
+            let t = item_fn(tape, kinds, lens, table);
+            stmt_item(t, c, ITEM_FN, kinds, lens, table)
+        }
+        IMPL => {
+            let t = item_impl(tape, kinds, lens, table);
+            stmt_item(t, c, ITEM_IMPL, kinds, lens, table)
+        }
+        MOD => stmt_mod(tape, c, kinds, lens, table),
+        _ => {
+            if kinds::classes::named_const(constant, k) {
+                let t = item_const(tape, kinds, lens, table);
+                return stmt_item(t, c, ITEM_CONST, kinds, lens, table);
+            }
+            stmt_expr(tape, kinds, lens, table)
+        }
+    }
+}
+
+// stmt (116): the case of `mod`.
+fn sm(tape: Tape, c: usize, kinds: &[u8], lens: &[u32], table: &mut [u32]) -> Tape
+    requires { ⌜ Marked c tape (now table) × Ready tape (now kinds) (now lens) (now table) ⌝ }
+    ensures { λ r. ⌜ Step c (stmt-mod (marking c)) (r .ans) tape r (now (kinds .entry)) (now (lens .entry)) (now (table .entry)) (now (table .exit)) ⌝ }
+{
+    let t = item_mod(tape, kinds, lens, table);
+    if t.no != 0 {
+        return t;
+    }
+    if t.ans == 1 {
+        return stmt_item(t, c, ITEM_MOD, kinds, lens, table);
+    }
+    stmt_item(t, c, ITEM_FILE_MOD, kinds, lens, table)
+}
+
+// stmt (116): the last case, an expression.
+fn sv(tape: Tape, kinds: &[u8], lens: &[u32], table: &mut [u32]) -> Tape
+    requires { ⌜ Ready tape (now kinds) (now lens) (now table) ⌝ }
+    ensures { λ r. ⌜ Ran stmt-expr (r .ans) tape r (now (kinds .entry)) (now (lens .entry)) (now (table .entry)) (now (table .exit)) ⌝ }
+{
+    let mut t = pieces::streams::labels(tape, kinds, lens, table);
+    if t.no != 0 {
+        return t;
+    }
+    t = outer_expr_with(
+        t,
+        Brace::Yes,
+        Range::Yes,
+        Binary::Yes,
+        ExprCx::StmtCx,
+        kinds,
+        lens,
+        table,
+    );
+    if t.no != 0 {
+        return t;
+    }
+    if t.ans == ERROR {
+        return t;
+    }
+    t.ans = EXPR;
+    t
+}
+
+// item_const (226).
+fn h(tape: Tape, kinds: &[u8], lens: &[u32], table: &mut [u32]) -> Tape
+    requires { ⌜ Ready tape (now kinds) (now lens) (now table) ⌝ }
+    ensures { λ r. ⌜ Ran item-const tt tape r (now (kinds .entry)) (now (lens .entry)) (now (table .entry)) (now (table .exit)) ⌝ }
+{
+    let mut t = tape.bump(kinds, lens, table);
+    if t.no != 0 {
+        return t;
+    }
+    t = t.bump_if(EQ, kinds, lens, table);
+    if t.no != 0 {
+        return t;
+    }
+    expr(t, kinds, lens, table)
+}
+
+// local (339).
+fn l(tape: Tape, cx: ExprCx, kinds: &[u8], lens: &[u32], table: &mut [u32]) -> Tape
+    requires { ⌜ Ready tape (now kinds) (now lens) (now table) ⌝ }
+    ensures { λ r. ⌜ Ran (local (cxOf cx)) tt tape r (now (kinds .entry)) (now (lens .entry)) (now (table .entry)) (now (table .exit)) ⌝ }
+{
+    let mut t = tape.bump(kinds, lens, table);
+    if t.no != 0 {
+        return t;
+    }
+    t = pieces::patterns::pat(t, kinds, lens, table);
+    if t.no != 0 {
+        return t;
+    }
+    t = t.bump_if(EQ, kinds, lens, table);
+    if t.no != 0 {
+        return t;
+    }
+    expr_with(
+        t,
+        Brace::Yes,
+        Range::Yes,
+        Binary::Yes,
+        cx,
+        kinds,
+        lens,
+        table,
+    )
+}
+
+// ---- Items that hold statements
+
+// item_fn (484); its arguments are in `pieces`.
+fn it(tape: Tape, kinds: &[u8], lens: &[u32], table: &mut [u32]) -> Tape
+    requires { ⌜ Ready tape (now kinds) (now lens) (now table) ⌝ }
+    ensures { λ r. ⌜ Ran item-fn tt tape r (now (kinds .entry)) (now (lens .entry)) (now (table .entry)) (now (table .exit)) ⌝ }
+{
+    let mut t = tape.bump(kinds, lens, table);
+    if t.no != 0 {
+        return t;
+    }
+    t = t.bump_if(IDENT, kinds, lens, table);
+    if t.no != 0 {
+        return t;
+    }
+    t = pieces::items::fn_args(t, kinds, lens, table);
+    if t.no != 0 {
+        return t;
+    }
+    if t.peek(kinds) == BRACE {
+        return block(t, kinds, lens, table);
+    }
+    t
+}
+
+// item_impl (514).
+fn i(tape: Tape, kinds: &[u8], lens: &[u32], table: &mut [u32]) -> Tape
+    requires { ⌜ Ready tape (now kinds) (now lens) (now table) ⌝ }
+    ensures { λ r. ⌜ Ran item-impl tt tape r (now (kinds .entry)) (now (lens .entry)) (now (table .entry)) (now (table .exit)) ⌝ }
+{
+    let mut t = tape.bump(kinds, lens, table);
+    if t.no != 0 {
+        return t;
+    }
+    t = pieces::items::impl_path(t, kinds, lens, table);
+    if t.no != 0 {
+        return t;
+    }
+    block(t, kinds, lens, table)
+}
+
+// item_mod (526): answers whether it has a block.
+fn im(tape: Tape, kinds: &[u8], lens: &[u32], table: &mut [u32]) -> Tape
+    requires { ⌜ Ready tape (now kinds) (now lens) (now table) ⌝ }
+    ensures { λ r. ⌜ Ran item-mod (said r) tape r (now (kinds .entry)) (now (lens .entry)) (now (table .entry)) (now (table .exit)) ⌝ }
+{
+    let mut t = tape.bump(kinds, lens, table);
+    if t.no != 0 {
+        return t;
+    }
+    t = t.bump_if(IDENT, kinds, lens, table);
+    if t.no != 0 {
+        return t;
+    }
+    if t.peek(kinds) == BRACE {
+        t = block(t, kinds, lens, table);
+        if t.no != 0 {
+            return t;
+        }
+        return t.say(true);
+    }
+    t.say(false)
+}
+
+// ---- Expressions
+
+// expr (663): expr_with in its first modes.
+pub fn p(tape: Tape, kinds: &[u8], lens: &[u32], table: &mut [u32]) -> Tape
+    requires { ⌜ Ready tape (now kinds) (now lens) (now table) ⌝ }
+    ensures { λ r. ⌜ Ran exprProg tt tape r (now (kinds .entry)) (now (lens .entry)) (now (table .entry)) (now (table .exit)) ⌝ }
+{
+    expr_with(
+        tape,
+        Brace::Yes,
+        Range::Yes,
+        Binary::Yes,
+        ExprCx::ErrorCx,
+        kinds,
+        lens,
+        table,
+    )
+}
+
+// expr_with (675).
 pub fn ex(
     tape: Tape,
-    brace: bool,
-    range: bool,
-    binary: bool,
-    cx: bool,
+    brace: Brace,
+    range: Range,
+    binary: Binary,
+    cx: ExprCx,
     kinds: &[u8],
     lens: &[u32],
     table: &mut [u32],
 ) -> Tape
     requires { ⌜ Ready tape (now kinds) (now lens) (now table) ⌝ }
-    ensures { λ r. ⌜ Ran (expr-with brace range binary cx) tt tape r (now (kinds .entry)) (now (lens .entry)) (now (table .entry)) (now (table .exit)) ⌝ }
+    ensures { λ r. ⌜ Ran (expr-with (braceOf brace) (rangeOf range) (binaryOf binary) (cxOf cx)) tt tape r (now (kinds .entry)) (now (lens .entry)) (now (table .entry)) (now (table .exit)) ⌝ }
 {
-    let mut t = tape.flush_ws(kinds, lens, table);
+    let mut t = tape.mark(kinds, lens, table);
     if t.no != 0 {
         return t;
     }
@@ -158,25 +449,26 @@ pub fn ex(
     if t.no != 0 {
         return t;
     }
-    t = ou(t, brace, range, binary, cx, kinds, lens, table);
+    t = outer_expr_with(t, brace, range, binary, cx, kinds, lens, table);
     if t.no != 0 {
         return t;
     }
     t.close_at(c, EXPR, kinds, lens, table)
 }
 
+// outer_expr_with (703): counted.
 fn ou(
     tape: Tape,
-    brace: bool,
-    range: bool,
-    binary: bool,
-    cx: bool,
+    brace: Brace,
+    range: Range,
+    binary: Binary,
+    cx: ExprCx,
     kinds: &[u8],
     lens: &[u32],
     table: &mut [u32],
 ) -> Tape
     requires { ⌜ Ready tape (now kinds) (now lens) (now table) ⌝ }
-    ensures { λ r. ⌜ Ran (outer-expr-with brace range binary cx) (r .ans) tape r (now (kinds .entry)) (now (lens .entry)) (now (table .entry)) (now (table .exit)) ⌝ }
+    ensures { λ r. ⌜ Ran (outer-expr-with (braceOf brace) (rangeOf range) (binaryOf binary) (cxOf cx)) (r .ans) tape r (now (kinds .entry)) (now (lens .entry)) (now (table .entry)) (now (table .exit)) ⌝ }
 {
     let left = tape.left;
     if left == 0 {
@@ -184,30 +476,31 @@ fn ou(
     }
     let mut t = tape;
     t.left = left - 1;
-    t = ob(t, brace, range, binary, cx, kinds, lens, table);
+    t = outer_expr_with_text(t, brace, range, binary, cx, kinds, lens, table);
     t.left = left;
     t
 }
 
+// outer_expr_with (703): from its mark c on.
 fn ob(
     tape: Tape,
-    brace: bool,
-    range: bool,
-    binary: bool,
-    cx: bool,
+    brace: Brace,
+    range: Range,
+    binary: Binary,
+    cx: ExprCx,
     kinds: &[u8],
     lens: &[u32],
     table: &mut [u32],
 ) -> Tape
     requires { ⌜ Ready tape (now kinds) (now lens) (now table) ⌝ }
-    ensures { λ r. ⌜ Ran (outer-body brace range binary cx) (r .ans) tape r (now (kinds .entry)) (now (lens .entry)) (now (table .entry)) (now (table .exit)) ⌝ }
+    ensures { λ r. ⌜ Ran (outer-expr-with-text (braceOf brace) (rangeOf range) (binaryOf binary) (cxOf cx)) (r .ans) tape r (now (kinds .entry)) (now (lens .entry)) (now (table .entry)) (now (table .exit)) ⌝ }
 {
-    let mut t = tape.flush_ws(kinds, lens, table);
+    let mut t = tape.mark(kinds, lens, table);
     if t.no != 0 {
         return t;
     }
     let c = t.rows;
-    t = pr(t, brace, range, cx, kinds, lens, table);
+    t = expr_primary(t, brace, range, cx, kinds, lens, table);
     if t.no != 0 {
         return t;
     }
@@ -215,46 +508,48 @@ fn ob(
     if kinds::classes::is_range(kind) {
         return t;
     }
-    oc(t, c, kind, brace, range, binary, cx, kinds, lens, table)
+    outer_chain(t, c, kind, brace, range, binary, cx, kinds, lens, table)
 }
 
+// outer_expr_with (703): behind the first operand. c is its mark, here and below.
 fn oc(
     tape: Tape,
     c: usize,
     kind: u8,
-    brace: bool,
-    range: bool,
-    binary: bool,
-    cx: bool,
+    brace: Brace,
+    range: Range,
+    binary: Binary,
+    cx: ExprCx,
     kinds: &[u8],
     lens: &[u32],
     table: &mut [u32],
 ) -> Tape
     requires { ⌜ Marked c tape (now table) × Ready tape (now kinds) (now lens) (now table) ⌝ }
-    ensures { λ r. ⌜ Step c (outer-chain kind brace range binary cx) (r .ans) tape r (now (kinds .entry)) (now (lens .entry)) (now (table .entry)) (now (table .exit)) ⌝ }
+    ensures { λ r. ⌜ Step c (outer-chain (marking c) kind (braceOf brace) (rangeOf range) (binaryOf binary) (cxOf cx)) (r .ans) tape r (now (kinds .entry)) (now (lens .entry)) (now (table .entry)) (now (table .exit)) ⌝ }
 {
-    let t = ch(tape, c, kind, kinds, lens, table);
+    let t = expr_chain(tape, c, kind, kinds, lens, table);
     if t.no != 0 {
         return t;
     }
     let k = t.ans;
     if t.peek(kinds) == EQ {
-        return o(t, c, brace, cx, kinds, lens, table);
+        return outer_assign(t, c, brace, cx, kinds, lens, table);
     }
-    ot(t, c, k, brace, range, binary, cx, kinds, lens, table)
+    outer_rest(t, c, k, brace, range, binary, cx, kinds, lens, table)
 }
 
+// outer_expr_with (703): behind `=`.
 fn o(
     tape: Tape,
     c: usize,
-    brace: bool,
-    cx: bool,
+    brace: Brace,
+    cx: ExprCx,
     kinds: &[u8],
     lens: &[u32],
     table: &mut [u32],
 ) -> Tape
     requires { ⌜ Marked c tape (now table) × Ready tape (now kinds) (now lens) (now table) ⌝ }
-    ensures { λ r. ⌜ Step c (outer-assign brace cx) (r .ans) tape r (now (kinds .entry)) (now (lens .entry)) (now (table .entry)) (now (table .exit)) ⌝ }
+    ensures { λ r. ⌜ Step c (outer-assign (marking c) (braceOf brace) (cxOf cx)) (r .ans) tape r (now (kinds .entry)) (now (lens .entry)) (now (table .entry)) (now (table .exit)) ⌝ }
 {
     let mut t = tape.close_at(c, EXPR, kinds, lens, table);
     if t.no != 0 {
@@ -264,160 +559,149 @@ fn o(
     if t.no != 0 {
         return t;
     }
-    t = ex(t, brace, true, true, cx, kinds, lens, table);
-    if t.no != 0 {
-        return t;
-    }
-    steps::finish(t, c, EXPR_ASSIGN, kinds, lens, table)
+    let u = expr_with(t, brace, Range::Yes, Binary::Yes, cx, kinds, lens, table);
+    finish(u, c, EXPR_ASSIGN, kinds, lens, table)
 }
 
+// outer_expr_with (703): operators, then a range.
 fn ot(
     tape: Tape,
     c: usize,
     kind: u8,
-    brace: bool,
-    range: bool,
-    binary: bool,
-    cx: bool,
+    brace: Brace,
+    range: Range,
+    binary: Binary,
+    cx: ExprCx,
     kinds: &[u8],
     lens: &[u32],
     table: &mut [u32],
 ) -> Tape
     requires { ⌜ Marked c tape (now table) × Ready tape (now kinds) (now lens) (now table) ⌝ }
-    ensures { λ r. ⌜ Step c (outer-rest kind brace range binary cx) (r .ans) tape r (now (kinds .entry)) (now (lens .entry)) (now (table .entry)) (now (table .exit)) ⌝ }
+    ensures { λ r. ⌜ Step c (outer-rest (marking c) kind (braceOf brace) (rangeOf range) (binaryOf binary) (cxOf cx)) (r .ans) tape r (now (kinds .entry)) (now (lens .entry)) (now (table .entry)) (now (table .exit)) ⌝ }
 {
-    let t = oo(tape, c, kind, brace, binary, cx, kinds, lens, table);
+    let t = outer_op(tape, c, kind, brace, binary, cx, kinds, lens, table);
     if t.no != 0 {
         return t;
     }
     let k = t.ans;
-    if range {
-        return er(t, c, k, brace, kinds, lens, table);
+    if kinds::modes::is_ranged(range) {
+        return expr_range(t, c, k, brace, kinds, lens, table);
     }
     t
 }
 
+// outer_expr_with (703): operators, if they are looked for.
 fn oo(
     tape: Tape,
     c: usize,
     kind: u8,
-    brace: bool,
-    binary: bool,
-    cx: bool,
+    brace: Brace,
+    binary: Binary,
+    cx: ExprCx,
     kinds: &[u8],
     lens: &[u32],
     table: &mut [u32],
 ) -> Tape
     requires { ⌜ Marked c tape (now table) × Ready tape (now kinds) (now lens) (now table) ⌝ }
-    ensures { λ r. ⌜ Step c (outer-op kind brace binary cx) (r .ans) tape r (now (kinds .entry)) (now (lens .entry)) (now (table .entry)) (now (table .exit)) ⌝ }
+    ensures { λ r. ⌜ Step c (outer-op (marking c) kind (braceOf brace) (binaryOf binary) (cxOf cx)) (r .ans) tape r (now (kinds .entry)) (now (lens .entry)) (now (table .entry)) (now (table .exit)) ⌝ }
 {
-    if binary {
-        return on(tape, c, kind, brace, cx, kinds, lens, table);
+    if kinds::modes::is_binary(binary) {
+        return outer_binary(tape, c, kind, brace, cx, kinds, lens, table);
     }
     let mut t = tape;
     t.ans = kind;
     t
 }
 
+// outer_expr_with (703): operators.
 fn on(
     tape: Tape,
     c: usize,
     kind: u8,
-    brace: bool,
-    cx: bool,
+    brace: Brace,
+    cx: ExprCx,
     kinds: &[u8],
     lens: &[u32],
     table: &mut [u32],
 ) -> Tape
     requires { ⌜ Marked c tape (now table) × Ready tape (now kinds) (now lens) (now table) ⌝ }
-    ensures { λ r. ⌜ Step c (outer-binary kind brace cx) (r .ans) tape r (now (kinds .entry)) (now (lens .entry)) (now (table .entry)) (now (table .exit)) ⌝ }
+    ensures { λ r. ⌜ Step c (outer-binary (marking c) kind (braceOf brace) (cxOf cx)) (r .ans) tape r (now (kinds .entry)) (now (lens .entry)) (now (table .entry)) (now (table .exit)) ⌝ }
 {
     let k = tape.peek(kinds);
     let j = tape.peek_second(kinds);
     let op = kinds::operators::from_slice(k, j);
-    let mut t = bi(tape, op, 0, brace, cx, kinds, lens, table);
+    let mut t = expr_binary(tape, op, 0, brace, cx, kinds, lens, table);
     if t.no != 0 {
         return t;
     }
     if t.ans == 1 {
-        return steps::finish(t, c, EXPR_BINARY, kinds, lens, table);
+        return finish(t, c, EXPR_BINARY, kinds, lens, table);
     }
     t.ans = kind;
     t
 }
 
+// ---- What an expression begins with
+
+// expr_primary (756): its `match`, as far as `TemplateString`. c is its mark, here and below.
 fn pr(
     tape: Tape,
-    brace: bool,
-    range: bool,
-    cx: bool,
+    brace: Brace,
+    range: Range,
+    cx: ExprCx,
     kinds: &[u8],
     lens: &[u32],
     table: &mut [u32],
 ) -> Tape
     requires { ⌜ Ready tape (now kinds) (now lens) (now table) ⌝ }
-    ensures { λ r. ⌜ Ran (expr-primary brace range cx) (r .ans) tape r (now (kinds .entry)) (now (lens .entry)) (now (table .entry)) (now (table .exit)) ⌝ }
+    ensures { λ r. ⌜ Ran (expr-primary (braceOf brace) (rangeOf range) (cxOf cx)) (r .ans) tape r (now (kinds .entry)) (now (lens .entry)) (now (table .entry)) (now (table .exit)) ⌝ }
 {
-    let t = tape.flush_ws(kinds, lens, table);
+    let t = tape.mark(kinds, lens, table);
     if t.no != 0 {
         return t;
     }
     let c = t.rows;
     let k = t.peek(kinds);
     let g = t.glued(kinds);
-    pk(t, c, brace, range, cx, k, g, kinds, lens, table)
-}
-
-fn pk(
-    tape: Tape,
-    c: usize,
-    brace: bool,
-    range: bool,
-    cx: bool,
-    k: u8,
-    g: u8,
-    kinds: &[u8],
-    lens: &[u32],
-    table: &mut [u32],
-) -> Tape
-    requires { ⌜ Marked c tape (now table) × Ready tape (now kinds) (now lens) (now table) ⌝ }
-    ensures { λ r. ⌜ Step c (primary-kind brace range cx k g) (r .ans) tape r (now (kinds .entry)) (now (lens .entry)) (now (table .entry)) (now (table .exit)) ⌝ }
-{
     if kinds::classes::is_lit(k) {
-        let t = tape.bump(kinds, lens, table);
-        if t.no != 0 {
-            return t;
-        }
-        return steps::finish(t, c, LIT, kinds, lens, table);
+        let u = t.bump(kinds, lens, table);
+        return finish(u, c, LIT, kinds, lens, table);
     }
     if kinds::classes::is_path_component(k) {
-        return pp(tape, c, brace, kinds, lens, table);
+        return primary_path(t, c, brace, kinds, lens, table);
     }
-    if k == OPEN_EMPTY {
-        let t = eg(tape, kinds, lens, table);
-        if t.no != 0 {
-            return t;
+    match k {
+        OPEN_EMPTY => {
+            let u = empty_group(t, kinds, lens, table);
+            finish(u, c, u.ans, kinds, lens, table)
         }
-        let kind = t.ans;
-        return steps::finish(t, c, kind, kinds, lens, table);
-    }
-    if k == PAREN {
-        let t = tg(tape, kinds, lens, table);
-        if t.no != 0 {
-            return t;
+        PAREN => {
+            let u = expr_tuple_or_group(t, kinds, lens, table);
+            finish(u, c, u.ans, kinds, lens, table)
         }
-        let kind = t.ans;
-        return steps::finish(t, c, kind, kinds, lens, table);
+        BRACKET => {
+            let u = parenthesized(t, Listed::Exprs, BRACKET_END, kinds, lens, table);
+            finish(u, c, EXPR_ARRAY, kinds, lens, table)
+        }
+        BRACE => {
+            let u = block_with(t, kinds, lens, table);
+            finish(u, c, BLOCK, kinds, lens, table)
+        }
+        TEMPLATE_STRING => {
+            let u = t.bump(kinds, lens, table);
+            finish(u, c, TEMPLATE, kinds, lens, table)
+        }
+        _ => primary_sign(t, c, brace, range, cx, k, g, kinds, lens, table),
     }
-    pq(tape, c, brace, range, cx, k, g, kinds, lens, table)
 }
 
-fn pq(
+// expr_primary (756): its `match` from `||` on: closures, a negative number, unary operators.
+fn pu(
     tape: Tape,
     c: usize,
-    brace: bool,
-    range: bool,
-    cx: bool,
+    brace: Brace,
+    range: Range,
+    cx: ExprCx,
     k: u8,
     g: u8,
     kinds: &[u8],
@@ -425,35 +709,176 @@ fn pq(
     table: &mut [u32],
 ) -> Tape
     requires { ⌜ Marked c tape (now table) × Ready tape (now kinds) (now lens) (now table) ⌝ }
-    ensures { λ r. ⌜ Step c (primary-group brace range cx k g) (r .ans) tape r (now (kinds .entry)) (now (lens .entry)) (now (table .entry)) (now (table .exit)) ⌝ }
+    ensures { λ r. ⌜ Step c (primary-sign (marking c) (braceOf brace) (rangeOf range) (cxOf cx) k g) (r .ans) tape r (now (kinds .entry)) (now (lens .entry)) (now (table .entry)) (now (table .exit)) ⌝ }
 {
-    if k == BRACKET {
-        let t = ps(tape, true, BRACKET_END, kinds, lens, table);
+    if k == PIPE_PIPE {
+        let t = tape.push(CLOSURE_ARGUMENTS, kinds, lens, table);
         if t.no != 0 {
             return t;
         }
-        return steps::finish(t, c, EXPR_ARRAY, kinds, lens, table);
+        let u = expr_with(t, brace, range, Binary::Yes, cx, kinds, lens, table);
+        return finish(u, c, EXPR_CLOSURE, kinds, lens, table);
     }
-    if k == BRACE {
-        let t = bw(tape, kinds, lens, table);
+    if k == PIPE {
+        let t = closure_arguments(tape, kinds, lens, table);
         if t.no != 0 {
             return t;
         }
-        return steps::finish(t, c, BLOCK, kinds, lens, table);
+        let u = expr_with(t, brace, range, Binary::Yes, cx, kinds, lens, table);
+        return finish(u, c, EXPR_CLOSURE, kinds, lens, table);
     }
-    if k == TEMPLATE_STRING {
+    if kinds::classes::glues(DASH, NUMBER, k, g) {
         let t = tape.bump(kinds, lens, table);
         if t.no != 0 {
             return t;
         }
-        return steps::finish(t, c, TEMPLATE, kinds, lens, table);
+        let u = t.bump(kinds, lens, table);
+        return finish(u, c, LIT, kinds, lens, table);
     }
-    q(tape, c, brace, range, cx, k, g, kinds, lens, table)
+    if kinds::classes::is_unary(k) {
+        let t = tape.bump(kinds, lens, table);
+        if t.no != 0 {
+            return t;
+        }
+        let u = outer_expr_with(t, brace, range, Binary::No, cx, kinds, lens, table);
+        return finish(u, c, EXPR_UNARY, kinds, lens, table);
+    }
+    primary_word(tape, c, brace, range, cx, k, g, kinds, lens, table)
 }
 
-fn pp(tape: Tape, c: usize, brace: bool, kinds: &[u8], lens: &[u32], table: &mut [u32]) -> Tape
+// expr_primary (756): its `match` from `if` on: the words.
+fn pw(
+    tape: Tape,
+    c: usize,
+    brace: Brace,
+    range: Range,
+    cx: ExprCx,
+    k: u8,
+    g: u8,
+    kinds: &[u8],
+    lens: &[u32],
+    table: &mut [u32],
+) -> Tape
     requires { ⌜ Marked c tape (now table) × Ready tape (now kinds) (now lens) (now table) ⌝ }
-    ensures { λ r. ⌜ Step c (primary-path brace) (r .ans) tape r (now (kinds .entry)) (now (lens .entry)) (now (table .entry)) (now (table .exit)) ⌝ }
+    ensures { λ r. ⌜ Step c (primary-word (marking c) (braceOf brace) (rangeOf range) (cxOf cx) k g) (r .ans) tape r (now (kinds .entry)) (now (lens .entry)) (now (table .entry)) (now (table .exit)) ⌝ }
+{
+    match k {
+        IF => {
+            let u = expr_if(tape, kinds, lens, table);
+            finish(u, c, EXPR_IF, kinds, lens, table)
+        }
+        WHILE => {
+            let u = expr_while(tape, kinds, lens, table);
+            finish(u, c, EXPR_WHILE, kinds, lens, table)
+        }
+        LOOP => {
+            let u = expr_loop(tape, kinds, lens, table);
+            finish(u, c, EXPR_LOOP, kinds, lens, table)
+        }
+        BREAK => {
+            let t = tape.bump(kinds, lens, table);
+            if t.no != 0 {
+                return t;
+            }
+            let u = pieces::streams::labels(t, kinds, lens, table);
+            if u.no != 0 {
+                return u;
+            }
+            let v = expr_if_any(u, brace, range, kinds, lens, table);
+            finish(v, c, EXPR_BREAK, kinds, lens, table)
+        }
+        CONTINUE => {
+            let t = tape.bump(kinds, lens, table);
+            if t.no != 0 {
+                return t;
+            }
+            let u = pieces::streams::labels(t, kinds, lens, table);
+            finish(u, c, EXPR_CONTINUE, kinds, lens, table)
+        }
+        RETURN => {
+            let t = tape.bump(kinds, lens, table);
+            if t.no != 0 {
+                return t;
+            }
+            let u = expr_if_any(t, brace, range, kinds, lens, table);
+            finish(u, c, EXPR_RETURN, kinds, lens, table)
+        }
+        YIELD => {
+            let t = tape.bump(kinds, lens, table);
+            if t.no != 0 {
+                return t;
+            }
+            let u = expr_if_any(t, brace, range, kinds, lens, table);
+            finish(u, c, EXPR_YIELD, kinds, lens, table)
+        }
+        FOR => {
+            let u = expr_for(tape, kinds, lens, table);
+            finish(u, c, EXPR_FOR, kinds, lens, table)
+        }
+        SELECT => {
+            let u = expr_select(tape, kinds, lens, table);
+            finish(u, c, EXPR_SELECT, kinds, lens, table)
+        }
+        MATCH => {
+            let u = expr_match(tape, kinds, lens, table);
+            finish(u, c, EXPR_MATCH, kinds, lens, table)
+        }
+        _ => primary_last(tape, c, brace, range, cx, k, g, kinds, lens, table),
+    }
+}
+
+// expr_primary (756): its `match` from `..` on.
+fn pl(
+    tape: Tape,
+    c: usize,
+    brace: Brace,
+    range: Range,
+    cx: ExprCx,
+    k: u8,
+    g: u8,
+    kinds: &[u8],
+    lens: &[u32],
+    table: &mut [u32],
+) -> Tape
+    requires { ⌜ Marked c tape (now table) × Ready tape (now kinds) (now lens) (now table) ⌝ }
+    ensures { λ r. ⌜ Step c (primary-last (marking c) (braceOf brace) (rangeOf range) (cxOf cx) k g) (r .ans) tape r (now (kinds .entry)) (now (lens .entry)) (now (table .entry)) (now (table .exit)) ⌝ }
+{
+    if kinds::classes::ranged_by(range, DOT_DOT, k) {
+        return range_to(tape, c, brace, kinds, lens, table);
+    }
+    if kinds::classes::ranged_by(range, DOT_DOT_EQ, k) {
+        let t = tape.bump(kinds, lens, table);
+        if t.no != 0 {
+            return t;
+        }
+        let u = outer_expr_with(
+            t,
+            brace,
+            Range::No,
+            Binary::Yes,
+            ExprCx::ErrorCx,
+            kinds,
+            lens,
+            table,
+        );
+        return finish(u, c, EXPR_RANGE_TO_INCLUSIVE, kinds, lens, table);
+    }
+    if kinds::classes::glues(POUND, BRACE, k, g) {
+        let t = tape.push(ANONYMOUS_OBJECT_KEY, kinds, lens, table);
+        if t.no != 0 {
+            return t;
+        }
+        let u = expr_object(t, kinds, lens, table);
+        return finish(u, c, EXPR_OBJECT, kinds, lens, table);
+    }
+    let u = recover(tape, cx, kinds, lens, table);
+    finish(u, c, ERROR, kinds, lens, table)
+}
+
+// expr_primary (756): the case of a path.
+fn pp(tape: Tape, c: usize, brace: Brace, kinds: &[u8], lens: &[u32], table: &mut [u32]) -> Tape
+    requires { ⌜ Marked c tape (now table) × Ready tape (now kinds) (now lens) (now table) ⌝ }
+    ensures { λ r. ⌜ Step c (primary-path (marking c) (braceOf brace)) (r .ans) tape r (now (kinds .entry)) (now (lens .entry)) (now (table .entry)) (now (table .exit)) ⌝ }
 {
     let mut t = pieces::paths::path(tape, kinds, lens, table);
     if t.no != 0 {
@@ -461,355 +886,74 @@ fn pp(tape: Tape, c: usize, brace: bool, kinds: &[u8], lens: &[u32], table: &mut
     }
     let k = t.peek(kinds);
     let g = t.glued(kinds);
-    if kinds::classes::allows(brace, BRACE, k) {
-        t = oj(t, kinds, lens, table);
-        if t.no != 0 {
-            return t;
-        }
-        return steps::finish(t, c, EXPR_OBJECT, kinds, lens, table);
+    if kinds::classes::braced_by(brace, k) {
+        let u = expr_object(t, kinds, lens, table);
+        return finish(u, c, EXPR_OBJECT, kinds, lens, table);
     }
     if kinds::classes::glues(BANG, PAREN, k, g) {
-        return steps::macro_call(t, c, Matcher::Parens, kinds, lens, table);
+        return macro_call(t, c, Matcher::Parens, kinds, lens, table);
     }
     if kinds::classes::glues(BANG, BRACE, k, g) {
-        return steps::macro_call(t, c, Matcher::Braces, kinds, lens, table);
+        return macro_call(t, c, Matcher::Braces, kinds, lens, table);
     }
     t.ans = PATH;
     t
 }
 
-fn q(
-    tape: Tape,
-    c: usize,
-    brace: bool,
-    range: bool,
-    cx: bool,
-    k: u8,
-    g: u8,
-    kinds: &[u8],
-    lens: &[u32],
-    table: &mut [u32],
-) -> Tape
-    requires { ⌜ Marked c tape (now table) × Ready tape (now kinds) (now lens) (now table) ⌝ }
-    ensures { λ r. ⌜ Step c (primary-prefix brace range cx k g) (r .ans) tape r (now (kinds .entry)) (now (lens .entry)) (now (table .entry)) (now (table .exit)) ⌝ }
-{
-    if k == PIPE_PIPE {
-        let mut t = tape.push(CLOSURE_ARGUMENTS, kinds, lens, table);
-        if t.no != 0 {
-            return t;
-        }
-        t = ex(t, brace, range, true, cx, kinds, lens, table);
-        if t.no != 0 {
-            return t;
-        }
-        return steps::finish(t, c, EXPR_CLOSURE, kinds, lens, table);
-    }
-    if k == PIPE {
-        let mut t = ca(tape, kinds, lens, table);
-        if t.no != 0 {
-            return t;
-        }
-        t = ex(t, brace, range, true, cx, kinds, lens, table);
-        if t.no != 0 {
-            return t;
-        }
-        return steps::finish(t, c, EXPR_CLOSURE, kinds, lens, table);
-    }
-    pu(tape, c, brace, range, cx, k, g, kinds, lens, table)
-}
-
+// expr_primary (756): what stands between the bars of a closure.
 fn ca(tape: Tape, kinds: &[u8], lens: &[u32], table: &mut [u32]) -> Tape
     requires { ⌜ Ready tape (now kinds) (now lens) (now table) ⌝ }
     ensures { λ r. ⌜ Ran closure-arguments tt tape r (now (kinds .entry)) (now (lens .entry)) (now (table .entry)) (now (table .exit)) ⌝ }
 {
-    let mut t = tape.flush_ws(kinds, lens, table);
+    let mut t = tape.mark(kinds, lens, table);
     if t.no != 0 {
         return t;
     }
     let c = t.rows;
-    t = ps(t, false, PIPE, kinds, lens, table);
+    t = parenthesized(t, Listed::Pats, PIPE, kinds, lens, table);
     if t.no != 0 {
         return t;
     }
     t.close_at(c, CLOSURE_ARGUMENTS, kinds, lens, table)
 }
 
-fn pu(
-    tape: Tape,
-    c: usize,
-    brace: bool,
-    range: bool,
-    cx: bool,
-    k: u8,
-    g: u8,
-    kinds: &[u8],
-    lens: &[u32],
-    table: &mut [u32],
-) -> Tape
+// expr_primary (756): the case of `..`.
+fn r(tape: Tape, c: usize, brace: Brace, kinds: &[u8], lens: &[u32], table: &mut [u32]) -> Tape
     requires { ⌜ Marked c tape (now table) × Ready tape (now kinds) (now lens) (now table) ⌝ }
-    ensures { λ r. ⌜ Step c (primary-unary brace range cx k g) (r .ans) tape r (now (kinds .entry)) (now (lens .entry)) (now (table .entry)) (now (table .exit)) ⌝ }
+    ensures { λ r. ⌜ Step c (range-to (marking c) (braceOf brace)) (r .ans) tape r (now (kinds .entry)) (now (lens .entry)) (now (table .entry)) (now (table .exit)) ⌝ }
 {
-    if kinds::classes::glues(DASH, NUMBER, k, g) {
-        let mut t = tape.bump(kinds, lens, table);
-        if t.no != 0 {
-            return t;
-        }
-        t = t.bump(kinds, lens, table);
-        if t.no != 0 {
-            return t;
-        }
-        return steps::finish(t, c, LIT, kinds, lens, table);
-    }
-    if kinds::classes::is_unary(k) {
-        let mut t = tape.bump(kinds, lens, table);
-        if t.no != 0 {
-            return t;
-        }
-        t = ou(t, brace, range, false, cx, kinds, lens, table);
-        if t.no != 0 {
-            return t;
-        }
-        return steps::finish(t, c, EXPR_UNARY, kinds, lens, table);
-    }
-    pw(tape, c, brace, range, cx, k, g, kinds, lens, table)
-}
-
-fn pw(
-    tape: Tape,
-    c: usize,
-    brace: bool,
-    range: bool,
-    cx: bool,
-    k: u8,
-    g: u8,
-    kinds: &[u8],
-    lens: &[u32],
-    table: &mut [u32],
-) -> Tape
-    requires { ⌜ Marked c tape (now table) × Ready tape (now kinds) (now lens) (now table) ⌝ }
-    ensures { λ r. ⌜ Step c (primary-word brace range cx k g) (r .ans) tape r (now (kinds .entry)) (now (lens .entry)) (now (table .entry)) (now (table .exit)) ⌝ }
-{
-    if k == IF {
-        let t = ei(tape, kinds, lens, table);
-        if t.no != 0 {
-            return t;
-        }
-        return steps::finish(t, c, EXPR_IF, kinds, lens, table);
-    }
-    if k == WHILE {
-        let t = w(tape, kinds, lens, table);
-        if t.no != 0 {
-            return t;
-        }
-        return steps::finish(t, c, EXPR_WHILE, kinds, lens, table);
-    }
-    if k == LOOP {
-        let t = lp(tape, kinds, lens, table);
-        if t.no != 0 {
-            return t;
-        }
-        return steps::finish(t, c, EXPR_LOOP, kinds, lens, table);
-    }
-    pj(tape, c, brace, range, cx, k, g, kinds, lens, table)
-}
-
-fn pj(
-    tape: Tape,
-    c: usize,
-    brace: bool,
-    range: bool,
-    cx: bool,
-    k: u8,
-    g: u8,
-    kinds: &[u8],
-    lens: &[u32],
-    table: &mut [u32],
-) -> Tape
-    requires { ⌜ Marked c tape (now table) × Ready tape (now kinds) (now lens) (now table) ⌝ }
-    ensures { λ r. ⌜ Step c (primary-jump brace range cx k g) (r .ans) tape r (now (kinds .entry)) (now (lens .entry)) (now (table .entry)) (now (table .exit)) ⌝ }
-{
-    if k == BREAK {
-        let mut t = tape.bump(kinds, lens, table);
-        if t.no != 0 {
-            return t;
-        }
-        t = pieces::streams::labels(t, kinds, lens, table);
-        if t.no != 0 {
-            return t;
-        }
-        t = a(t, brace, range, kinds, lens, table);
-        if t.no != 0 {
-            return t;
-        }
-        return steps::finish(t, c, EXPR_BREAK, kinds, lens, table);
-    }
-    if k == CONTINUE {
-        let mut t = tape.bump(kinds, lens, table);
-        if t.no != 0 {
-            return t;
-        }
-        t = pieces::streams::labels(t, kinds, lens, table);
-        if t.no != 0 {
-            return t;
-        }
-        return steps::finish(t, c, EXPR_CONTINUE, kinds, lens, table);
-    }
-    pg(tape, c, brace, range, cx, k, g, kinds, lens, table)
-}
-
-fn pg(
-    tape: Tape,
-    c: usize,
-    brace: bool,
-    range: bool,
-    cx: bool,
-    k: u8,
-    g: u8,
-    kinds: &[u8],
-    lens: &[u32],
-    table: &mut [u32],
-) -> Tape
-    requires { ⌜ Marked c tape (now table) × Ready tape (now kinds) (now lens) (now table) ⌝ }
-    ensures { λ r. ⌜ Step c (primary-give brace range cx k g) (r .ans) tape r (now (kinds .entry)) (now (lens .entry)) (now (table .entry)) (now (table .exit)) ⌝ }
-{
-    if k == RETURN {
-        let mut t = tape.bump(kinds, lens, table);
-        if t.no != 0 {
-            return t;
-        }
-        t = a(t, brace, range, kinds, lens, table);
-        if t.no != 0 {
-            return t;
-        }
-        return steps::finish(t, c, EXPR_RETURN, kinds, lens, table);
-    }
-    if k == YIELD {
-        let mut t = tape.bump(kinds, lens, table);
-        if t.no != 0 {
-            return t;
-        }
-        t = a(t, brace, range, kinds, lens, table);
-        if t.no != 0 {
-            return t;
-        }
-        return steps::finish(t, c, EXPR_YIELD, kinds, lens, table);
-    }
-    p(tape, c, brace, range, cx, k, g, kinds, lens, table)
-}
-
-fn p(
-    tape: Tape,
-    c: usize,
-    brace: bool,
-    range: bool,
-    cx: bool,
-    k: u8,
-    g: u8,
-    kinds: &[u8],
-    lens: &[u32],
-    table: &mut [u32],
-) -> Tape
-    requires { ⌜ Marked c tape (now table) × Ready tape (now kinds) (now lens) (now table) ⌝ }
-    ensures { λ r. ⌜ Step c (primary-block brace range cx k g) (r .ans) tape r (now (kinds .entry)) (now (lens .entry)) (now (table .entry)) (now (table .exit)) ⌝ }
-{
-    if k == FOR {
-        let t = fo(tape, kinds, lens, table);
-        if t.no != 0 {
-            return t;
-        }
-        return steps::finish(t, c, EXPR_FOR, kinds, lens, table);
-    }
-    if k == SELECT {
-        let t = se(tape, kinds, lens, table);
-        if t.no != 0 {
-            return t;
-        }
-        return steps::finish(t, c, EXPR_SELECT, kinds, lens, table);
-    }
-    if k == MATCH {
-        let t = ma(tape, kinds, lens, table);
-        if t.no != 0 {
-            return t;
-        }
-        return steps::finish(t, c, EXPR_MATCH, kinds, lens, table);
-    }
-    pl(tape, c, brace, range, cx, k, g, kinds, lens, table)
-}
-
-fn pl(
-    tape: Tape,
-    c: usize,
-    brace: bool,
-    range: bool,
-    cx: bool,
-    k: u8,
-    g: u8,
-    kinds: &[u8],
-    lens: &[u32],
-    table: &mut [u32],
-) -> Tape
-    requires { ⌜ Marked c tape (now table) × Ready tape (now kinds) (now lens) (now table) ⌝ }
-    ensures { λ r. ⌜ Step c (primary-last brace range cx k g) (r .ans) tape r (now (kinds .entry)) (now (lens .entry)) (now (table .entry)) (now (table .exit)) ⌝ }
-{
-    if kinds::classes::allows(range, DOT_DOT, k) {
-        return r(tape, c, brace, kinds, lens, table);
-    }
-    if kinds::classes::allows(range, DOT_DOT_EQ, k) {
-        let mut t = tape.bump(kinds, lens, table);
-        if t.no != 0 {
-            return t;
-        }
-        t = ou(t, brace, false, true, false, kinds, lens, table);
-        if t.no != 0 {
-            return t;
-        }
-        return steps::finish(t, c, EXPR_RANGE_TO_INCLUSIVE, kinds, lens, table);
-    }
-    if kinds::classes::glues(POUND, BRACE, k, g) {
-        let mut t = tape.push(ANONYMOUS_OBJECT_KEY, kinds, lens, table);
-        if t.no != 0 {
-            return t;
-        }
-        t = oj(t, kinds, lens, table);
-        if t.no != 0 {
-            return t;
-        }
-        return steps::finish(t, c, EXPR_OBJECT, kinds, lens, table);
-    }
-    let t = steps::recover(tape, cx, kinds, lens, table);
+    let t = tape.bump(kinds, lens, table);
     if t.no != 0 {
         return t;
     }
-    steps::finish(t, c, ERROR, kinds, lens, table)
+    if kinds::classes::is_expr_with(brace, Range::No, t.peek(kinds), t.glued(kinds)) {
+        let u = outer_expr_with(
+            t,
+            brace,
+            Range::No,
+            Binary::Yes,
+            ExprCx::ErrorCx,
+            kinds,
+            lens,
+            table,
+        );
+        return finish(u, c, EXPR_RANGE_TO, kinds, lens, table);
+    }
+    finish(t, c, EXPR_RANGE_FULL, kinds, lens, table)
 }
 
-fn r(tape: Tape, c: usize, brace: bool, kinds: &[u8], lens: &[u32], table: &mut [u32]) -> Tape
-    requires { ⌜ Marked c tape (now table) × Ready tape (now kinds) (now lens) (now table) ⌝ }
-    ensures { λ r. ⌜ Step c (range-to brace) (r .ans) tape r (now (kinds .entry)) (now (lens .entry)) (now (table .entry)) (now (table .exit)) ⌝ }
-{
-    let mut t = tape.bump(kinds, lens, table);
-    if t.no != 0 {
-        return t;
-    }
-    if kinds::classes::is_expr_with(brace, false, t.peek(kinds), t.glued(kinds)) {
-        t = ou(t, brace, false, true, false, kinds, lens, table);
-        if t.no != 0 {
-            return t;
-        }
-        return steps::finish(t, c, EXPR_RANGE_TO, kinds, lens, table);
-    }
-    steps::finish(t, c, EXPR_RANGE_FULL, kinds, lens, table)
-}
+// ---- Links: calls, fields, indices
 
+// expr_chain (934), with outer_expr_with's mark c.
 fn ch(tape: Tape, c: usize, kind: u8, kinds: &[u8], lens: &[u32], table: &mut [u32]) -> Tape
     requires { ⌜ Marked c tape (now table) × Ready tape (now kinds) (now lens) (now table) ⌝ }
-    ensures { λ r. ⌜ Step c (expr-chain kind) (r .ans) tape r (now (kinds .entry)) (now (lens .entry)) (now (table .entry)) (now (table .exit)) ⌝ }
+    ensures { λ r. ⌜ Step c (expr-chain (marking c) kind) (r .ans) tape r (now (kinds .entry)) (now (lens .entry)) (now (table .entry)) (now (table .exit)) ⌝ }
 {
     let mut t = tape;
     let mut last = kind;
     let mut any = false;
     loop {
-        t = d(t, last, kinds, lens, table);
+        t = chain_step(t, last, kinds, lens, table);
         if t.no != 0 {
             return t;
         }
@@ -832,28 +976,29 @@ fn ch(tape: Tape, c: usize, kind: u8, kinds: &[u8], lens: &[u32], table: &mut [u
     t
 }
 
+// expr_chain (934): a turn of its loop; answers the kind of the link, or 0.
 fn d(tape: Tape, kind: u8, kinds: &[u8], lens: &[u32], table: &mut [u32]) -> Tape
     requires { ⌜ Ready tape (now kinds) (now lens) (now table) ⌝ }
     ensures { λ r. ⌜ Ran (chain-step kind) (r .ans) tape r (now (kinds .entry)) (now (lens .entry)) (now (table .entry)) (now (table .exit)) ⌝ }
 {
-    let mut t = tape.flush_ws(kinds, lens, table);
+    let mut t = tape.mark(kinds, lens, table);
     if t.no != 0 {
         return t;
     }
     let c = t.rows;
     let k = t.peek(kinds);
-    t = li(t, kind, k, kinds, lens, table);
+    t = chain_link(t, kind, k, kinds, lens, table);
     if t.no != 0 {
         return t;
     }
     let j = t.ans;
     if j == 0 {
-        t.ans = 0;
         return t;
     }
-    steps::finish(t, c, j, kinds, lens, table)
+    finish(t, c, j, kinds, lens, table)
 }
 
+// expr_chain (934): its `match`.
 fn li(tape: Tape, kind: u8, k: u8, kinds: &[u8], lens: &[u32], table: &mut [u32]) -> Tape
     requires { ⌜ Ready tape (now kinds) (now lens) (now table) ⌝ }
     ensures { λ r. ⌜ Ran (chain-link kind k) (r .ans) tape r (now (kinds .entry)) (now (lens .entry)) (now (table .entry)) (now (table .exit)) ⌝ }
@@ -863,7 +1008,7 @@ fn li(tape: Tape, kind: u8, k: u8, kinds: &[u8], lens: &[u32], table: &mut [u32]
         if t.no != 0 {
             return t;
         }
-        t = ex(t, true, true, true, false, kinds, lens, table);
+        t = expr(t, kinds, lens, table);
         if t.no != 0 {
             return t;
         }
@@ -875,7 +1020,7 @@ fn li(tape: Tape, kind: u8, k: u8, kinds: &[u8], lens: &[u32], table: &mut [u32]
         return t;
     }
     if kinds::classes::linked(kind, PAREN, k) {
-        let mut t = ps(tape, true, PAREN_END, kinds, lens, table);
+        let mut t = parenthesized(tape, Listed::Exprs, PAREN_END, kinds, lens, table);
         if t.no != 0 {
             return t;
         }
@@ -891,56 +1036,16 @@ fn li(tape: Tape, kind: u8, k: u8, kinds: &[u8], lens: &[u32], table: &mut [u32]
         return t;
     }
     if k == DOT {
-        return steps::field_link(tape, kinds, lens, table);
+        return field_link(tape, kinds, lens, table);
     }
     let mut t = tape;
     t.ans = 0;
     t
 }
 
-fn ps(tape: Tape, mode: bool, end: u8, kinds: &[u8], lens: &[u32], table: &mut [u32]) -> Tape
-    requires { ⌜ Ready tape (now kinds) (now lens) (now table) ⌝ }
-    ensures { λ r. ⌜ Ran (parenthesized mode end) tt tape r (now (kinds .entry)) (now (lens .entry)) (now (table .entry)) (now (table .exit)) ⌝ }
-{
-    let mut t = tape.bump(kinds, lens, table);
-    if t.no != 0 {
-        return t;
-    }
-    t = is(t, mode, kinds, lens, table);
-    if t.no != 0 {
-        return t;
-    }
-    t.bump_if(end, kinds, lens, table)
-}
+// ---- Groups and objects
 
-fn is(tape: Tape, mode: bool, kinds: &[u8], lens: &[u32], table: &mut [u32]) -> Tape
-    requires { ⌜ Ready tape (now kinds) (now lens) (now table) ⌝ }
-    ensures { λ r. ⌜ Ran (items mode) tt tape r (now (kinds .entry)) (now (lens .entry)) (now (table .entry)) (now (table .exit)) ⌝ }
-{
-    if mode {
-        return x(tape, kinds, lens, table);
-    }
-    pieces::patterns::pat_list(tape, kinds, lens, table)
-}
-
-fn x(tape: Tape, kinds: &[u8], lens: &[u32], table: &mut [u32]) -> Tape
-    requires { ⌜ Ready tape (now kinds) (now lens) (now table) ⌝ }
-    ensures { λ r. ⌜ Ran expr-list tt tape r (now (kinds .entry)) (now (lens .entry)) (now (table .entry)) (now (table .exit)) ⌝ }
-{
-    let mut t = tape;
-    while kinds::classes::is_expr_with(true, true, t.peek(kinds), t.glued(kinds)) {
-        t = ex(t, true, true, true, false, kinds, lens, table);
-        if t.no != 0 {
-            return t;
-        }
-        t = t.bump_while(COMMA, kinds, lens, table);
-        if t.no != 0 {
-            return t;
-        }
-    }
-    t
-}
-
+// empty_group (998).
 fn eg(tape: Tape, kinds: &[u8], lens: &[u32], table: &mut [u32]) -> Tape
     requires { ⌜ Ready tape (now kinds) (now lens) (now table) ⌝ }
     ensures { λ r. ⌜ Ran empty-group (r .ans) tape r (now (kinds .entry)) (now (lens .entry)) (now (table .entry)) (now (table .exit)) ⌝ }
@@ -949,7 +1054,7 @@ fn eg(tape: Tape, kinds: &[u8], lens: &[u32], table: &mut [u32]) -> Tape
     if t.no != 0 {
         return t;
     }
-    t = ex(t, true, true, true, false, kinds, lens, table);
+    t = expr(t, kinds, lens, table);
     if t.no != 0 {
         return t;
     }
@@ -961,6 +1066,7 @@ fn eg(tape: Tape, kinds: &[u8], lens: &[u32], table: &mut [u32]) -> Tape
     t
 }
 
+// expr_tuple_or_group (1006).
 fn tg(tape: Tape, kinds: &[u8], lens: &[u32], table: &mut [u32]) -> Tape
     requires { ⌜ Ready tape (now kinds) (now lens) (now table) ⌝ }
     ensures { λ r. ⌜ Ran expr-tuple-or-group (r .ans) tape r (now (kinds .entry)) (now (lens .entry)) (now (table .entry)) (now (table .exit)) ⌝ }
@@ -969,7 +1075,7 @@ fn tg(tape: Tape, kinds: &[u8], lens: &[u32], table: &mut [u32]) -> Tape
     if t.no != 0 {
         return t;
     }
-    t = u(t, kinds, lens, table);
+    t = tuple_items(t, kinds, lens, table);
     if t.no != 0 {
         return t;
     }
@@ -986,14 +1092,15 @@ fn tg(tape: Tape, kinds: &[u8], lens: &[u32], table: &mut [u32]) -> Tape
     t
 }
 
+// expr_tuple_or_group (1006): its loop; answers whether a comma was there.
 fn u(tape: Tape, kinds: &[u8], lens: &[u32], table: &mut [u32]) -> Tape
     requires { ⌜ Ready tape (now kinds) (now lens) (now table) ⌝ }
     ensures { λ r. ⌜ Ran tuple-items (said r) tape r (now (kinds .entry)) (now (lens .entry)) (now (table .entry)) (now (table .exit)) ⌝ }
 {
     let mut t = tape;
     let mut is_tuple = false;
-    while kinds::classes::is_expr_with(true, true, t.peek(kinds), t.glued(kinds)) {
-        t = ex(t, true, true, true, false, kinds, lens, table);
+    while kinds::classes::is_expr_with(Brace::Yes, Range::Yes, t.peek(kinds), t.glued(kinds)) {
+        t = expr(t, kinds, lens, table);
         if t.no != 0 {
             return t;
         }
@@ -1003,14 +1110,10 @@ fn u(tape: Tape, kinds: &[u8], lens: &[u32], table: &mut [u32]) -> Tape
         }
         is_tuple = is_tuple | (t.ans == 1);
     }
-    if is_tuple {
-        t.ans = 1;
-        return t;
-    }
-    t.ans = 0;
-    t
+    t.say(is_tuple)
 }
 
+// expr_object (1025).
 fn oj(tape: Tape, kinds: &[u8], lens: &[u32], table: &mut [u32]) -> Tape
     requires { ⌜ Ready tape (now kinds) (now lens) (now table) ⌝ }
     ensures { λ r. ⌜ Ran expr-object tt tape r (now (kinds .entry)) (now (lens .entry)) (now (table .entry)) (now (table .exit)) ⌝ }
@@ -1019,13 +1122,14 @@ fn oj(tape: Tape, kinds: &[u8], lens: &[u32], table: &mut [u32]) -> Tape
     if t.no != 0 {
         return t;
     }
-    t = of(t, kinds, lens, table);
+    t = object_fields(t, kinds, lens, table);
     if t.no != 0 {
         return t;
     }
     t.bump_if(BRACE_END, kinds, lens, table)
 }
 
+// expr_object (1025): its loop.
 fn of(tape: Tape, kinds: &[u8], lens: &[u32], table: &mut [u32]) -> Tape
     requires { ⌜ Ready tape (now kinds) (now lens) (now table) ⌝ }
     ensures { λ r. ⌜ Ran object-fields tt tape r (now (kinds .entry)) (now (lens .entry)) (now (table .entry)) (now (table .exit)) ⌝ }
@@ -1036,7 +1140,7 @@ fn of(tape: Tape, kinds: &[u8], lens: &[u32], table: &mut [u32]) -> Tape
         if t.no != 0 {
             return t;
         }
-        t = e(t, COLON, kinds, lens, table);
+        t = expr_after(t, COLON, kinds, lens, table);
         if t.no != 0 {
             return t;
         }
@@ -1048,6 +1152,7 @@ fn of(tape: Tape, kinds: &[u8], lens: &[u32], table: &mut [u32]) -> Tape
     t
 }
 
+// An expression behind a token that may be there.
 fn e(tape: Tape, k: u8, kinds: &[u8], lens: &[u32], table: &mut [u32]) -> Tape
     requires { ⌜ Ready tape (now kinds) (now lens) (now table) ⌝ }
     ensures { λ r. ⌜ Ran (expr-after k) tt tape r (now (kinds .entry)) (now (lens .entry)) (now (table .entry)) (now (table .exit)) ⌝ }
@@ -1057,11 +1162,14 @@ fn e(tape: Tape, k: u8, kinds: &[u8], lens: &[u32], table: &mut [u32]) -> Tape
         return t;
     }
     if t.ans == 1 {
-        return ex(t, true, true, true, false, kinds, lens, table);
+        return expr(t, kinds, lens, table);
     }
     t
 }
 
+// ---- Control flow
+
+// expr_if (1071).
 fn ei(tape: Tape, kinds: &[u8], lens: &[u32], table: &mut [u32]) -> Tape
     requires { ⌜ Ready tape (now kinds) (now lens) (now table) ⌝ }
     ensures { λ r. ⌜ Ran expr-if tt tape r (now (kinds .entry)) (now (lens .entry)) (now (table .entry)) (now (table .exit)) ⌝ }
@@ -1070,24 +1178,25 @@ fn ei(tape: Tape, kinds: &[u8], lens: &[u32], table: &mut [u32]) -> Tape
     if t.no != 0 {
         return t;
     }
-    t = co(t, kinds, lens, table);
+    t = condition(t, kinds, lens, table);
     if t.no != 0 {
         return t;
     }
-    t = bl(t, kinds, lens, table);
+    t = block(t, kinds, lens, table);
     if t.no != 0 {
         return t;
     }
-    en(t, kinds, lens, table)
+    else_branches(t, kinds, lens, table)
 }
 
+// expr_if (1071): its loop.
 fn en(tape: Tape, kinds: &[u8], lens: &[u32], table: &mut [u32]) -> Tape
     requires { ⌜ Ready tape (now kinds) (now lens) (now table) ⌝ }
     ensures { λ r. ⌜ Ran else-branches tt tape r (now (kinds .entry)) (now (lens .entry)) (now (table .entry)) (now (table .exit)) ⌝ }
 {
     let mut t = tape;
     while t.peek(kinds) == ELSE {
-        t = eb(t, kinds, lens, table);
+        t = else_branch(t, kinds, lens, table);
         if t.no != 0 {
             return t;
         }
@@ -1095,11 +1204,12 @@ fn en(tape: Tape, kinds: &[u8], lens: &[u32], table: &mut [u32]) -> Tape
     t
 }
 
+// expr_if (1071): a turn of its loop.
 fn eb(tape: Tape, kinds: &[u8], lens: &[u32], table: &mut [u32]) -> Tape
     requires { ⌜ Ready tape (now kinds) (now lens) (now table) ⌝ }
     ensures { λ r. ⌜ Ran else-branch tt tape r (now (kinds .entry)) (now (lens .entry)) (now (table .entry)) (now (table .exit)) ⌝ }
 {
-    let mut t = tape.flush_ws(kinds, lens, table);
+    let mut t = tape.mark(kinds, lens, table);
     if t.no != 0 {
         return t;
     }
@@ -1108,12 +1218,12 @@ fn eb(tape: Tape, kinds: &[u8], lens: &[u32], table: &mut [u32]) -> Tape
     if t.no != 0 {
         return t;
     }
-    t = el(t, kinds, lens, table);
+    t = else_if(t, kinds, lens, table);
     if t.no != 0 {
         return t;
     }
     let is_else_if = t.ans;
-    t = bl(t, kinds, lens, table);
+    t = block(t, kinds, lens, table);
     if t.no != 0 {
         return t;
     }
@@ -1123,6 +1233,7 @@ fn eb(tape: Tape, kinds: &[u8], lens: &[u32], table: &mut [u32]) -> Tape
     t.close_at(c, EXPR_ELSE, kinds, lens, table)
 }
 
+// expr_if (1071): `if` and its condition; answers whether they are there.
 fn el(tape: Tape, kinds: &[u8], lens: &[u32], table: &mut [u32]) -> Tape
     requires { ⌜ Ready tape (now kinds) (now lens) (now table) ⌝ }
     ensures { λ r. ⌜ Ran else-if (said r) tape r (now (kinds .entry)) (now (lens .entry)) (now (table .entry)) (now (table .exit)) ⌝ }
@@ -1132,65 +1243,16 @@ fn el(tape: Tape, kinds: &[u8], lens: &[u32], table: &mut [u32]) -> Tape
         return t;
     }
     if t.ans == 1 {
-        t = co(t, kinds, lens, table);
+        t = condition(t, kinds, lens, table);
         if t.no != 0 {
             return t;
         }
-        t.ans = 1;
-        return t;
+        return t.say(true);
     }
-    t.ans = 0;
-    t
+    t.say(false)
 }
 
-fn co(tape: Tape, kinds: &[u8], lens: &[u32], table: &mut [u32]) -> Tape
-    requires { ⌜ Ready tape (now kinds) (now lens) (now table) ⌝ }
-    ensures { λ r. ⌜ Ran condition tt tape r (now (kinds .entry)) (now (lens .entry)) (now (table .entry)) (now (table .exit)) ⌝ }
-{
-    if tape.peek(kinds) == LET {
-        return cd(tape, kinds, lens, table);
-    }
-    ex(tape, false, true, true, false, kinds, lens, table)
-}
-
-fn cd(tape: Tape, kinds: &[u8], lens: &[u32], table: &mut [u32]) -> Tape
-    requires { ⌜ Ready tape (now kinds) (now lens) (now table) ⌝ }
-    ensures { λ r. ⌜ Ran condition-let tt tape r (now (kinds .entry)) (now (lens .entry)) (now (table .entry)) (now (table .exit)) ⌝ }
-{
-    let mut t = tape.flush_ws(kinds, lens, table);
-    if t.no != 0 {
-        return t;
-    }
-    let c = t.rows;
-    t = t.bump(kinds, lens, table);
-    if t.no != 0 {
-        return t;
-    }
-    t = pieces::patterns::pat(t, kinds, lens, table);
-    if t.no != 0 {
-        return t;
-    }
-    t = ci(t, kinds, lens, table);
-    if t.no != 0 {
-        return t;
-    }
-    t.close_at(c, CONDITION, kinds, lens, table)
-}
-
-fn ci(tape: Tape, kinds: &[u8], lens: &[u32], table: &mut [u32]) -> Tape
-    requires { ⌜ Ready tape (now kinds) (now lens) (now table) ⌝ }
-    ensures { λ r. ⌜ Ran condition-init tt tape r (now (kinds .entry)) (now (lens .entry)) (now (table .entry)) (now (table .exit)) ⌝ }
-{
-    let t = tape.bump_if(EQ, kinds, lens, table);
-    if t.no != 0 {
-        return t;
-    }
-    if t.ans == 1 {
-        return ex(t, false, true, true, false, kinds, lens, table);
-    }
-    t
-}
-
+// expr_while (1100).
 fn w(tape: Tape, kinds: &[u8], lens: &[u32], table: &mut [u32]) -> Tape
     requires { ⌜ Ready tape (now kinds) (now lens) (now table) ⌝ }
     ensures { λ r. ⌜ Ran expr-while tt tape r (now (kinds .entry)) (now (lens .entry)) (now (table .entry)) (now (table .exit)) ⌝ }
@@ -1199,13 +1261,14 @@ fn w(tape: Tape, kinds: &[u8], lens: &[u32], table: &mut [u32]) -> Tape
     if t.no != 0 {
         return t;
     }
-    t = co(t, kinds, lens, table);
+    t = condition(t, kinds, lens, table);
     if t.no != 0 {
         return t;
     }
-    bl(t, kinds, lens, table)
+    block(t, kinds, lens, table)
 }
 
+// expr_loop (1108).
 fn lp(tape: Tape, kinds: &[u8], lens: &[u32], table: &mut [u32]) -> Tape
     requires { ⌜ Ready tape (now kinds) (now lens) (now table) ⌝ }
     ensures { λ r. ⌜ Ran expr-loop tt tape r (now (kinds .entry)) (now (lens .entry)) (now (table .entry)) (now (table .exit)) ⌝ }
@@ -1214,9 +1277,10 @@ fn lp(tape: Tape, kinds: &[u8], lens: &[u32], table: &mut [u32]) -> Tape
     if t.no != 0 {
         return t;
     }
-    bl(t, kinds, lens, table)
+    block(t, kinds, lens, table)
 }
 
+// expr_for (1115).
 fn fo(tape: Tape, kinds: &[u8], lens: &[u32], table: &mut [u32]) -> Tape
     requires { ⌜ Ready tape (now kinds) (now lens) (now table) ⌝ }
     ensures { λ r. ⌜ Ran expr-for tt tape r (now (kinds .entry)) (now (lens .entry)) (now (table .entry)) (now (table .exit)) ⌝ }
@@ -1229,13 +1293,14 @@ fn fo(tape: Tape, kinds: &[u8], lens: &[u32], table: &mut [u32]) -> Tape
     if t.no != 0 {
         return t;
     }
-    t = f(t, kinds, lens, table);
+    t = for_in(t, kinds, lens, table);
     if t.no != 0 {
         return t;
     }
-    bl(t, kinds, lens, table)
+    block(t, kinds, lens, table)
 }
 
+// expr_for (1115): `in` and its expression.
 fn f(tape: Tape, kinds: &[u8], lens: &[u32], table: &mut [u32]) -> Tape
     requires { ⌜ Ready tape (now kinds) (now lens) (now table) ⌝ }
     ensures { λ r. ⌜ Ran for-in tt tape r (now (kinds .entry)) (now (lens .entry)) (now (table .entry)) (now (table .exit)) ⌝ }
@@ -1245,11 +1310,21 @@ fn f(tape: Tape, kinds: &[u8], lens: &[u32], table: &mut [u32]) -> Tape
         return t;
     }
     if t.ans == 1 {
-        return ex(t, false, true, true, false, kinds, lens, table);
+        return expr_with(
+            t,
+            Brace::No,
+            Range::Yes,
+            Binary::Yes,
+            ExprCx::ErrorCx,
+            kinds,
+            lens,
+            table,
+        );
     }
     t
 }
 
+// expr_match (1129).
 fn ma(tape: Tape, kinds: &[u8], lens: &[u32], table: &mut [u32]) -> Tape
     requires { ⌜ Ready tape (now kinds) (now lens) (now table) ⌝ }
     ensures { λ r. ⌜ Ran expr-match tt tape r (now (kinds .entry)) (now (lens .entry)) (now (table .entry)) (now (table .exit)) ⌝ }
@@ -1258,7 +1333,16 @@ fn ma(tape: Tape, kinds: &[u8], lens: &[u32], table: &mut [u32]) -> Tape
     if t.no != 0 {
         return t;
     }
-    t = ex(t, false, true, true, false, kinds, lens, table);
+    t = expr_with(
+        t,
+        Brace::No,
+        Range::Yes,
+        Binary::Yes,
+        ExprCx::ErrorCx,
+        kinds,
+        lens,
+        table,
+    );
     if t.no != 0 {
         return t;
     }
@@ -1267,7 +1351,7 @@ fn ma(tape: Tape, kinds: &[u8], lens: &[u32], table: &mut [u32]) -> Tape
         if t.no != 0 {
             return t;
         }
-        t = ml(t, kinds, lens, table);
+        t = match_list(t, kinds, lens, table);
         if t.no != 0 {
             return t;
         }
@@ -1276,13 +1360,14 @@ fn ma(tape: Tape, kinds: &[u8], lens: &[u32], table: &mut [u32]) -> Tape
     t
 }
 
+// expr_match (1129): its loop.
 fn ml(tape: Tape, kinds: &[u8], lens: &[u32], table: &mut [u32]) -> Tape
     requires { ⌜ Ready tape (now kinds) (now lens) (now table) ⌝ }
     ensures { λ r. ⌜ Ran match-list tt tape r (now (kinds .entry)) (now (lens .entry)) (now (table .entry)) (now (table .exit)) ⌝ }
 {
     let mut t = tape;
     while kinds::classes::is_pat(t.peek(kinds), t.glued(kinds)) {
-        t = mc(t, kinds, lens, table);
+        t = match_case(t, kinds, lens, table);
         if t.no != 0 {
             return t;
         }
@@ -1294,11 +1379,12 @@ fn ml(tape: Tape, kinds: &[u8], lens: &[u32], table: &mut [u32]) -> Tape
     t
 }
 
+// expr_match (1129): an arm.
 fn mc(tape: Tape, kinds: &[u8], lens: &[u32], table: &mut [u32]) -> Tape
     requires { ⌜ Ready tape (now kinds) (now lens) (now table) ⌝ }
     ensures { λ r. ⌜ Ran match-case tt tape r (now (kinds .entry)) (now (lens .entry)) (now (table .entry)) (now (table .exit)) ⌝ }
 {
-    let mut t = tape.flush_ws(kinds, lens, table);
+    let mut t = tape.mark(kinds, lens, table);
     if t.no != 0 {
         return t;
     }
@@ -1307,17 +1393,18 @@ fn mc(tape: Tape, kinds: &[u8], lens: &[u32], table: &mut [u32]) -> Tape
     if t.no != 0 {
         return t;
     }
-    t = e(t, IF, kinds, lens, table);
+    t = expr_after(t, IF, kinds, lens, table);
     if t.no != 0 {
         return t;
     }
-    t = e(t, ROCKET, kinds, lens, table);
+    t = expr_after(t, ROCKET, kinds, lens, table);
     if t.no != 0 {
         return t;
     }
     t.close_at(c, EXPR_MATCH_ARM, kinds, lens, table)
 }
 
+// expr_select (1161).
 fn se(tape: Tape, kinds: &[u8], lens: &[u32], table: &mut [u32]) -> Tape
     requires { ⌜ Ready tape (now kinds) (now lens) (now table) ⌝ }
     ensures { λ r. ⌜ Ran expr-select tt tape r (now (kinds .entry)) (now (lens .entry)) (now (table .entry)) (now (table .exit)) ⌝ }
@@ -1331,7 +1418,7 @@ fn se(tape: Tape, kinds: &[u8], lens: &[u32], table: &mut [u32]) -> Tape
         if t.no != 0 {
             return t;
         }
-        t = sl(t, kinds, lens, table);
+        t = select_list(t, kinds, lens, table);
         if t.no != 0 {
             return t;
         }
@@ -1340,13 +1427,14 @@ fn se(tape: Tape, kinds: &[u8], lens: &[u32], table: &mut [u32]) -> Tape
     t
 }
 
+// expr_select (1161): its loop.
 fn sl(tape: Tape, kinds: &[u8], lens: &[u32], table: &mut [u32]) -> Tape
     requires { ⌜ Ready tape (now kinds) (now lens) (now table) ⌝ }
     ensures { λ r. ⌜ Ran select-list tt tape r (now (kinds .entry)) (now (lens .entry)) (now (table .entry)) (now (table .exit)) ⌝ }
 {
     let mut t = tape;
     while kinds::classes::is_select_arm(t.peek(kinds), t.glued(kinds)) {
-        t = sc(t, kinds, lens, table);
+        t = select_case(t, kinds, lens, table);
         if t.no != 0 {
             return t;
         }
@@ -1358,26 +1446,28 @@ fn sl(tape: Tape, kinds: &[u8], lens: &[u32], table: &mut [u32]) -> Tape
     t
 }
 
+// expr_select (1161): an arm.
 fn sc(tape: Tape, kinds: &[u8], lens: &[u32], table: &mut [u32]) -> Tape
     requires { ⌜ Ready tape (now kinds) (now lens) (now table) ⌝ }
     ensures { λ r. ⌜ Ran select-case tt tape r (now (kinds .entry)) (now (lens .entry)) (now (table .entry)) (now (table .exit)) ⌝ }
 {
-    let mut t = tape.flush_ws(kinds, lens, table);
+    let mut t = tape.mark(kinds, lens, table);
     if t.no != 0 {
         return t;
     }
     let c = t.rows;
-    t = sp(t, kinds, lens, table);
+    t = select_pat(t, kinds, lens, table);
     if t.no != 0 {
         return t;
     }
-    t = e(t, ROCKET, kinds, lens, table);
+    t = expr_after(t, ROCKET, kinds, lens, table);
     if t.no != 0 {
         return t;
     }
     t.close_at(c, EXPR_SELECT_ARM, kinds, lens, table)
 }
 
+// expr_select (1161): its inner `match`.
 fn sp(tape: Tape, kinds: &[u8], lens: &[u32], table: &mut [u32]) -> Tape
     requires { ⌜ Ready tape (now kinds) (now lens) (now table) ⌝ }
     ensures { λ r. ⌜ Ran select-pat tt tape r (now (kinds .entry)) (now (lens .entry)) (now (table .entry)) (now (table .exit)) ⌝ }
@@ -1389,31 +1479,113 @@ fn sp(tape: Tape, kinds: &[u8], lens: &[u32], table: &mut [u32]) -> Tape
     if t.no != 0 {
         return t;
     }
-    e(t, EQ, kinds, lens, table)
+    expr_after(t, EQ, kinds, lens, table)
 }
 
-fn a(tape: Tape, brace: bool, range: bool, kinds: &[u8], lens: &[u32], table: &mut [u32]) -> Tape
+// condition (1198).
+fn co(tape: Tape, kinds: &[u8], lens: &[u32], table: &mut [u32]) -> Tape
     requires { ⌜ Ready tape (now kinds) (now lens) (now table) ⌝ }
-    ensures { λ r. ⌜ Ran (expr-if-any brace range) tt tape r (now (kinds .entry)) (now (lens .entry)) (now (table .entry)) (now (table .exit)) ⌝ }
+    ensures { λ r. ⌜ Ran condition tt tape r (now (kinds .entry)) (now (lens .entry)) (now (table .entry)) (now (table .exit)) ⌝ }
+{
+    if tape.peek(kinds) == LET {
+        return condition_let(tape, kinds, lens, table);
+    }
+    expr_with(
+        tape,
+        Brace::No,
+        Range::Yes,
+        Binary::Yes,
+        ExprCx::ErrorCx,
+        kinds,
+        lens,
+        table,
+    )
+}
+
+// condition (1198): behind `let`.
+fn cd(tape: Tape, kinds: &[u8], lens: &[u32], table: &mut [u32]) -> Tape
+    requires { ⌜ Ready tape (now kinds) (now lens) (now table) ⌝ }
+    ensures { λ r. ⌜ Ran condition-let tt tape r (now (kinds .entry)) (now (lens .entry)) (now (table .entry)) (now (table .exit)) ⌝ }
+{
+    let mut t = tape.mark(kinds, lens, table);
+    if t.no != 0 {
+        return t;
+    }
+    let c = t.rows;
+    t = t.bump(kinds, lens, table);
+    if t.no != 0 {
+        return t;
+    }
+    t = pieces::patterns::pat(t, kinds, lens, table);
+    if t.no != 0 {
+        return t;
+    }
+    t = condition_init(t, kinds, lens, table);
+    if t.no != 0 {
+        return t;
+    }
+    t.close_at(c, CONDITION, kinds, lens, table)
+}
+
+// condition (1198): `=` and its expression.
+fn ci(tape: Tape, kinds: &[u8], lens: &[u32], table: &mut [u32]) -> Tape
+    requires { ⌜ Ready tape (now kinds) (now lens) (now table) ⌝ }
+    ensures { λ r. ⌜ Ran condition-init tt tape r (now (kinds .entry)) (now (lens .entry)) (now (table .entry)) (now (table .exit)) ⌝ }
+{
+    let t = tape.bump_if(EQ, kinds, lens, table);
+    if t.no != 0 {
+        return t;
+    }
+    if t.ans == 1 {
+        return expr_with(
+            t,
+            Brace::No,
+            Range::Yes,
+            Binary::Yes,
+            ExprCx::ErrorCx,
+            kinds,
+            lens,
+            table,
+        );
+    }
+    t
+}
+
+// The expression behind `break`, `return` and `yield`, if there is one.
+fn a(tape: Tape, brace: Brace, range: Range, kinds: &[u8], lens: &[u32], table: &mut [u32]) -> Tape
+    requires { ⌜ Ready tape (now kinds) (now lens) (now table) ⌝ }
+    ensures { λ r. ⌜ Ran (expr-if-any (braceOf brace) (rangeOf range)) tt tape r (now (kinds .entry)) (now (lens .entry)) (now (table .entry)) (now (table .exit)) ⌝ }
 {
     if kinds::classes::is_expr_with(brace, range, tape.peek(kinds), tape.glued(kinds)) {
-        return ex(tape, brace, range, true, false, kinds, lens, table);
+        return expr_with(
+            tape,
+            brace,
+            range,
+            Binary::Yes,
+            ExprCx::ErrorCx,
+            kinds,
+            lens,
+            table,
+        );
     }
     tape
 }
 
+// ---- Operators and ranges
+
+// expr_binary (1252): counted.
 fn bi(
     tape: Tape,
     op: Op,
     least: u8,
-    brace: bool,
-    cx: bool,
+    brace: Brace,
+    cx: ExprCx,
     kinds: &[u8],
     lens: &[u32],
     table: &mut [u32],
 ) -> Tape
     requires { ⌜ (Next op tape (now kinds)) × Ready tape (now kinds) (now lens) (now table) ⌝ }
-    ensures { λ r. ⌜ Ran (expr-binary (opOf op) least brace cx) (said r) tape r (now (kinds .entry)) (now (lens .entry)) (now (table .entry)) (now (table .exit)) ⌝ }
+    ensures { λ r. ⌜ Ran (expr-binary (opOf op) least (braceOf brace) (cxOf cx)) (said r) tape r (now (kinds .entry)) (now (lens .entry)) (now (table .entry)) (now (table .exit)) ⌝ }
 {
     let left = tape.left;
     if left == 0 {
@@ -1421,107 +1593,108 @@ fn bi(
     }
     let mut t = tape;
     t.left = left - 1;
-    t = b(t, op, least, brace, cx, kinds, lens, table);
+    t = expr_binary_text(t, op, least, brace, cx, kinds, lens, table);
     t.left = left;
     t
 }
 
+// expr_binary (1252): its loop.
 fn b(
     tape: Tape,
     op: Op,
     least: u8,
-    brace: bool,
-    cx: bool,
+    brace: Brace,
+    cx: ExprCx,
     kinds: &[u8],
     lens: &[u32],
     table: &mut [u32],
 ) -> Tape
     requires { ⌜ (Next op tape (now kinds)) × Ready tape (now kinds) (now lens) (now table) ⌝ }
-    ensures { λ r. ⌜ Ran (binary-body (opOf op) least brace cx) (said r) tape r (now (kinds .entry)) (now (lens .entry)) (now (table .entry)) (now (table .exit)) ⌝ }
+    ensures { λ r. ⌜ Ran (expr-binary-text (opOf op) least (braceOf brace) (cxOf cx)) (said r) tape r (now (kinds .entry)) (now (lens .entry)) (now (table .entry)) (now (table .exit)) ⌝ }
 {
     let mut t = tape;
-    let mut next = op;
+    let mut ahead = op;
     let mut any = false;
     loop {
-        if kinds::operators::is_below(least, next) {
-            break;
+        if kinds::operators::is_none(ahead) {
+            return t.say(any);
         }
-        t = steps::operator(t, next, kinds, lens, table);
+        if kinds::operators::is_below(least, ahead) {
+            return t.say(any);
+        }
+        t = operator(t, ahead, kinds, lens, table);
         if t.no != 0 {
             return t;
         }
-        t = rd(t, next, brace, cx, kinds, lens, table);
+        t = operand(t, ahead, brace, cx, kinds, lens, table);
         if t.no != 0 {
             return t;
         }
-        next = kinds::operators::from_slice(t.peek(kinds), t.peek_second(kinds));
+        // The operator that the operand has left over. (A call answers no operator; nothing has moved since it looked.)
+        ahead = kinds::operators::from_slice(t.peek(kinds), t.peek_second(kinds));
         any = true;
     }
-    if any {
-        t.ans = 1;
-        return t;
-    }
-    t.ans = 0;
-    t
 }
 
+// expr_binary (1252): an operand, and what binds tighter behind it.
 fn rd(
     tape: Tape,
     op: Op,
-    brace: bool,
-    cx: bool,
+    brace: Brace,
+    cx: ExprCx,
     kinds: &[u8],
     lens: &[u32],
     table: &mut [u32],
 ) -> Tape
     requires { ⌜ (Small op) × Ready tape (now kinds) (now lens) (now table) ⌝ }
-    ensures { λ r. ⌜ Ran (operand (opOf op) brace cx) tt tape r (now (kinds .entry)) (now (lens .entry)) (now (table .entry)) (now (table .exit)) ⌝ }
+    ensures { λ r. ⌜ Ran (operand (opOf op) (braceOf brace) (cxOf cx)) (aheadOf r (now (kinds .entry))) tape r (now (kinds .entry)) (now (lens .entry)) (now (table .entry)) (now (table .exit)) ⌝ }
 {
-    let mut t = tape.flush_ws(kinds, lens, table);
+    let mut t = tape.mark(kinds, lens, table);
     if t.no != 0 {
         return t;
     }
     let c = t.rows;
     let place = t.next;
-    t = ou(t, brace, false, false, cx, kinds, lens, table);
+    t = outer_expr_with(t, brace, Range::No, Binary::No, cx, kinds, lens, table);
     if t.no != 0 {
         return t;
     }
-    let mut next = kinds::operators::from_slice(t.peek(kinds), t.peek_second(kinds));
+    let mut ahead = kinds::operators::from_slice(t.peek(kinds), t.peek_second(kinds));
     loop {
-        if kinds::operators::is_none(next) {
+        if kinds::operators::is_none(ahead) {
             return t;
         }
-        if kinds::operators::is_tighter(op, next) {
-            t = n(t, c, op, next, brace, cx, kinds, lens, table);
+        if kinds::operators::is_tighter(op, ahead) {
+            t = nest(t, c, op, ahead, brace, cx, kinds, lens, table);
             if t.no != 0 {
                 return t;
             }
-            next = kinds::operators::from_slice(t.peek(kinds), t.peek_second(kinds));
+            ahead = kinds::operators::from_slice(t.peek(kinds), t.peek_second(kinds));
             continue;
         }
-        if kinds::operators::clashes(op, next) {
+        if kinds::operators::clashes(op, ahead) {
             return t.refuse(7, place);
         }
         return t;
     }
 }
 
+// expr_binary (1252): it enters itself. c is the operand's mark.
 fn n(
     tape: Tape,
     c: usize,
     op: Op,
-    next: Op,
-    brace: bool,
-    cx: bool,
+    ahead: Op,
+    brace: Brace,
+    cx: ExprCx,
     kinds: &[u8],
     lens: &[u32],
     table: &mut [u32],
 ) -> Tape
-    requires { ⌜ Marked c tape (now table) × (Small op) × (Next next tape (now kinds)) × Ready tape (now kinds) (now lens) (now table) ⌝ }
-    ensures { λ r. ⌜ Step c (nest (opOf op) (opOf next) brace cx) tt tape r (now (kinds .entry)) (now (lens .entry)) (now (table .entry)) (now (table .exit)) ⌝ }
+    requires { ⌜ Marked c tape (now table) × (Small op) × (Next ahead tape (now kinds)) × Ready tape (now kinds) (now lens) (now table) ⌝ }
+    ensures { λ r. ⌜ Step c (nest (marking c) (opOf op) (opOf ahead) (braceOf brace) (cxOf cx)) tt tape r (now (kinds .entry)) (now (lens .entry)) (now (table .entry)) (now (table .exit)) ⌝ }
 {
-    let t = bi(tape, next, op.binding + 1, brace, cx, kinds, lens, table);
+    let t = expr_binary(tape, ahead, op.binding + 1, brace, cx, kinds, lens, table);
     if t.no != 0 {
         return t;
     }
@@ -1531,21 +1704,22 @@ fn n(
     t
 }
 
+// expr_range (1306), with outer_expr_with's mark c.
 fn er(
     tape: Tape,
     c: usize,
     kind: u8,
-    brace: bool,
+    brace: Brace,
     kinds: &[u8],
     lens: &[u32],
     table: &mut [u32],
 ) -> Tape
     requires { ⌜ Marked c tape (now table) × Ready tape (now kinds) (now lens) (now table) ⌝ }
-    ensures { λ r. ⌜ Step c (expr-range kind brace) (r .ans) tape r (now (kinds .entry)) (now (lens .entry)) (now (table .entry)) (now (table .exit)) ⌝ }
+    ensures { λ r. ⌜ Step c (expr-range (marking c) kind (braceOf brace)) (r .ans) tape r (now (kinds .entry)) (now (lens .entry)) (now (table .entry)) (now (table .exit)) ⌝ }
 {
     let k = tape.peek(kinds);
     if k == DOT_DOT {
-        return rr(
+        return range_rest(
             tape,
             c,
             brace,
@@ -1557,7 +1731,7 @@ fn er(
         );
     }
     if k == DOT_DOT_EQ {
-        return rr(
+        return range_rest(
             tape,
             c,
             brace,
@@ -1573,60 +1747,72 @@ fn er(
     t
 }
 
+// expr_range (1306): what follows `..` and `..=`.
 fn rr(
     tape: Tape,
     c: usize,
-    brace: bool,
+    brace: Brace,
     kind: u8,
-    none: u8,
+    otherwise: u8,
     kinds: &[u8],
     lens: &[u32],
     table: &mut [u32],
 ) -> Tape
     requires { ⌜ Marked c tape (now table) × Ready tape (now kinds) (now lens) (now table) ⌝ }
-    ensures { λ r. ⌜ Step c (range-rest brace kind none) (r .ans) tape r (now (kinds .entry)) (now (lens .entry)) (now (table .entry)) (now (table .exit)) ⌝ }
+    ensures { λ r. ⌜ Step c (range-rest (marking c) (braceOf brace) kind otherwise) (r .ans) tape r (now (kinds .entry)) (now (lens .entry)) (now (table .entry)) (now (table .exit)) ⌝ }
 {
-    let mut t = tape.bump(kinds, lens, table);
+    let t = tape.bump(kinds, lens, table);
     if t.no != 0 {
         return t;
     }
-    if kinds::classes::is_expr_with(brace, false, t.peek(kinds), t.glued(kinds)) {
-        t = ou(t, brace, false, true, false, kinds, lens, table);
-        if t.no != 0 {
-            return t;
-        }
-        return steps::finish(t, c, kind, kinds, lens, table);
+    if kinds::classes::is_expr_with(brace, Range::No, t.peek(kinds), t.glued(kinds)) {
+        let u = outer_expr_with(
+            t,
+            brace,
+            Range::No,
+            Binary::Yes,
+            ExprCx::ErrorCx,
+            kinds,
+            lens,
+            table,
+        );
+        return finish(u, c, kind, kinds, lens, table);
     }
-    steps::finish(t, c, none, kinds, lens, table)
+    finish(t, c, otherwise, kinds, lens, table)
 }
 
+// ---- Blocks and lists
+
+// block (1339).
 fn bl(tape: Tape, kinds: &[u8], lens: &[u32], table: &mut [u32]) -> Tape
     requires { ⌜ Ready tape (now kinds) (now lens) (now table) ⌝ }
     ensures { λ r. ⌜ Ran block tt tape r (now (kinds .entry)) (now (lens .entry)) (now (table .entry)) (now (table .exit)) ⌝ }
 {
-    let mut t = tape.flush_ws(kinds, lens, table);
+    let mut t = tape.mark(kinds, lens, table);
     if t.no != 0 {
         return t;
     }
     let c = t.rows;
-    t = bw(t, kinds, lens, table);
+    t = block_with(t, kinds, lens, table);
     if t.no != 0 {
         return t;
     }
     t.close_at(c, BLOCK, kinds, lens, table)
 }
 
+// block_with (1347).
 fn bw(tape: Tape, kinds: &[u8], lens: &[u32], table: &mut [u32]) -> Tape
     requires { ⌜ Ready tape (now kinds) (now lens) (now table) ⌝ }
     ensures { λ r. ⌜ Ran block-with tt tape r (now (kinds .entry)) (now (lens .entry)) (now (table .entry)) (now (table .exit)) ⌝ }
 {
-    let t = bo(tape, kinds, lens, table);
+    let t = block_open(tape, kinds, lens, table);
     if t.no != 0 {
         return t;
     }
     t.bump_if(BRACE_END, kinds, lens, table)
 }
 
+// block_with (1347): behind `{`.
 fn bo(tape: Tape, kinds: &[u8], lens: &[u32], table: &mut [u32]) -> Tape
     requires { ⌜ Ready tape (now kinds) (now lens) (now table) ⌝ }
     ensures { λ r. ⌜ Ran block-open tt tape r (now (kinds .entry)) (now (lens .entry)) (now (table .entry)) (now (table .exit)) ⌝ }
@@ -1636,34 +1822,36 @@ fn bo(tape: Tape, kinds: &[u8], lens: &[u32], table: &mut [u32]) -> Tape
         return t;
     }
     if t.ans == 1 {
-        return by(t, kinds, lens, table);
+        return block_body(t, kinds, lens, table);
     }
     t
 }
 
+// block_with (1347): the body.
 fn by(tape: Tape, kinds: &[u8], lens: &[u32], table: &mut [u32]) -> Tape
     requires { ⌜ Ready tape (now kinds) (now lens) (now table) ⌝ }
     ensures { λ r. ⌜ Ran block-body tt tape r (now (kinds .entry)) (now (lens .entry)) (now (table .entry)) (now (table .exit)) ⌝ }
 {
-    let mut t = tape.flush_ws(kinds, lens, table);
+    let mut t = tape.mark(kinds, lens, table);
     if t.no != 0 {
         return t;
     }
     let c = t.rows;
-    t = bs(t, kinds, lens, table);
+    t = block_stmts(t, kinds, lens, table);
     if t.no != 0 {
         return t;
     }
     t.close_at(c, BLOCK_BODY, kinds, lens, table)
 }
 
+// block_with (1347): its loop.
 fn bs(tape: Tape, kinds: &[u8], lens: &[u32], table: &mut [u32]) -> Tape
     requires { ⌜ Ready tape (now kinds) (now lens) (now table) ⌝ }
     ensures { λ r. ⌜ Ran block-stmts tt tape r (now (kinds .entry)) (now (lens .entry)) (now (table .entry)) (now (table .exit)) ⌝ }
 {
     let mut t = tape;
     while kinds::classes::in_block(t.peek(kinds)) {
-        t = st(t, kinds, lens, table);
+        t = stmt(t, kinds, lens, table);
         if t.no != 0 {
             return t;
         }
@@ -1671,293 +1859,48 @@ fn bs(tape: Tape, kinds: &[u8], lens: &[u32], table: &mut [u32]) -> Tape
     t
 }
 
-pub fn st(tape: Tape, kinds: &[u8], lens: &[u32], table: &mut [u32]) -> Tape
+// parenthesized (1384).
+fn ps(tape: Tape, of: Listed, end: u8, kinds: &[u8], lens: &[u32], table: &mut [u32]) -> Tape
     requires { ⌜ Ready tape (now kinds) (now lens) (now table) ⌝ }
-    ensures { λ r. ⌜ Ran stmt tt tape r (now (kinds .entry)) (now (lens .entry)) (now (table .entry)) (now (table .exit)) ⌝ }
+    ensures { λ r. ⌜ Ran (parenthesized (listedOf of) end) tt tape r (now (kinds .entry)) (now (lens .entry)) (now (table .entry)) (now (table .exit)) ⌝ }
 {
-    let left = tape.left;
-    if left == 0 {
-        return tape.refuse(10, tape.next);
+    let mut t = tape.bump(kinds, lens, table);
+    if t.no != 0 {
+        return t;
     }
+    t = items(t, of, kinds, lens, table);
+    if t.no != 0 {
+        return t;
+    }
+    t.bump_if(end, kinds, lens, table)
+}
+
+// parenthesized (1384): its loop.
+fn is(tape: Tape, of: Listed, kinds: &[u8], lens: &[u32], table: &mut [u32]) -> Tape
+    requires { ⌜ Ready tape (now kinds) (now lens) (now table) ⌝ }
+    ensures { λ r. ⌜ Ran (items (listedOf of)) tt tape r (now (kinds .entry)) (now (lens .entry)) (now (table .entry)) (now (table .exit)) ⌝ }
+{
+    if kinds::modes::are_exprs(of) {
+        return expr_list(tape, kinds, lens, table);
+    }
+    pieces::patterns::pat_list(tape, kinds, lens, table)
+}
+
+// parenthesized (1384): its loop over expressions.
+fn x(tape: Tape, kinds: &[u8], lens: &[u32], table: &mut [u32]) -> Tape
+    requires { ⌜ Ready tape (now kinds) (now lens) (now table) ⌝ }
+    ensures { λ r. ⌜ Ran expr-list tt tape r (now (kinds .entry)) (now (lens .entry)) (now (table .entry)) (now (table .exit)) ⌝ }
+{
     let mut t = tape;
-    t.left = left - 1;
-    t = sb(t, kinds, lens, table);
-    t.left = left;
-    t
-}
-
-fn sb(tape: Tape, kinds: &[u8], lens: &[u32], table: &mut [u32]) -> Tape
-    requires { ⌜ Ready tape (now kinds) (now lens) (now table) ⌝ }
-    ensures { λ r. ⌜ Ran stmt-body tt tape r (now (kinds .entry)) (now (lens .entry)) (now (table .entry)) (now (table .exit)) ⌝ }
-{
-    let before = tape.next;
-    let mut t = pieces::streams::inner_attributes(tape, kinds, lens, table);
-    if t.no != 0 {
-        return t;
-    }
-    t = so(t, kinds, lens, table);
-    if t.no != 0 {
-        return t;
-    }
-    t = t.bump_while(SEMI, kinds, lens, table);
-    if t.no != 0 {
-        return t;
-    }
-    let after = t.next;
-    if after == before {
-        return t.refuse(9, after);
-    }
-    t
-}
-
-fn so(tape: Tape, kinds: &[u8], lens: &[u32], table: &mut [u32]) -> Tape
-    requires { ⌜ Ready tape (now kinds) (now lens) (now table) ⌝ }
-    ensures { λ r. ⌜ Ran stmt-outer tt tape r (now (kinds .entry)) (now (lens .entry)) (now (table .entry)) (now (table .exit)) ⌝ }
-{
-    let mut t = tape.flush_ws(kinds, lens, table);
-    if t.no != 0 {
-        return t;
-    }
-    let c = t.rows;
-    t = pieces::streams::attributes(t, kinds, lens, table);
-    if t.no != 0 {
-        return t;
-    }
-    t = si(t, kinds, lens, table);
-    if t.no != 0 {
-        return t;
-    }
-    let kind = t.ans;
-    t.close_at(c, kind, kinds, lens, table)
-}
-
-fn si(tape: Tape, kinds: &[u8], lens: &[u32], table: &mut [u32]) -> Tape
-    requires { ⌜ Ready tape (now kinds) (now lens) (now table) ⌝ }
-    ensures { λ r. ⌜ Ran stmt-inner (r .ans) tape r (now (kinds .entry)) (now (lens .entry)) (now (table .entry)) (now (table .exit)) ⌝ }
-{
-    let mut t = tape.flush_ws(kinds, lens, table);
-    if t.no != 0 {
-        return t;
-    }
-    let c = t.rows;
-    t = pieces::paths::modifiers(t, kinds, lens, table);
-    if t.no != 0 {
-        return t;
-    }
-    let constant = t.ans == 1;
-    let k = t.peek(kinds);
-    sk(t, c, constant, k, kinds, lens, table)
-}
-
-fn sk(
-    tape: Tape,
-    c: usize,
-    constant: bool,
-    k: u8,
-    kinds: &[u8],
-    lens: &[u32],
-    table: &mut [u32],
-) -> Tape
-    requires { ⌜ Marked c tape (now table) × Ready tape (now kinds) (now lens) (now table) ⌝ }
-    ensures { λ r. ⌜ Step c (stmt-kind constant k) (r .ans) tape r (now (kinds .entry)) (now (lens .entry)) (now (table .entry)) (now (table .exit)) ⌝ }
-{
-    if k == LET {
-        let mut t = l(tape, true, kinds, lens, table);
+    while kinds::classes::is_expr_with(Brace::Yes, Range::Yes, t.peek(kinds), t.glued(kinds)) {
+        t = expr(t, kinds, lens, table);
         if t.no != 0 {
             return t;
         }
-        t.ans = LOCAL;
-        return t;
-    }
-    if k == USE {
-        let t = pieces::items::item_use(tape, kinds, lens, table);
+        t = t.bump_while(COMMA, kinds, lens, table);
         if t.no != 0 {
             return t;
         }
-        return steps::item_end(t, c, ITEM_USE, kinds, lens, table);
     }
-    if k == STRUCT {
-        let t = pieces::items::item_struct(tape, kinds, lens, table);
-        if t.no != 0 {
-            return t;
-        }
-        return steps::item_end(t, c, ITEM_STRUCT, kinds, lens, table);
-    }
-    if k == ENUM {
-        let t = pieces::items::item_enum(tape, kinds, lens, table);
-        if t.no != 0 {
-            return t;
-        }
-        return steps::item_end(t, c, ITEM_ENUM, kinds, lens, table);
-    }
-    s(tape, c, constant, k, kinds, lens, table)
-}
-
-fn s(
-    tape: Tape,
-    c: usize,
-    constant: bool,
-    k: u8,
-    kinds: &[u8],
-    lens: &[u32],
-    table: &mut [u32],
-) -> Tape
-    requires { ⌜ Marked c tape (now table) × Ready tape (now kinds) (now lens) (now table) ⌝ }
-    ensures { λ r. ⌜ Step c (stmt-block constant k) (r .ans) tape r (now (kinds .entry)) (now (lens .entry)) (now (table .entry)) (now (table .exit)) ⌝ }
-{
-    if k == FN {
-        let t = it(tape, kinds, lens, table);
-        if t.no != 0 {
-            return t;
-        }
-        return steps::item_end(t, c, ITEM_FN, kinds, lens, table);
-    }
-    if k == IMPL {
-        let t = i(tape, kinds, lens, table);
-        if t.no != 0 {
-            return t;
-        }
-        return steps::item_end(t, c, ITEM_IMPL, kinds, lens, table);
-    }
-    if k == MOD {
-        let t = im(tape, kinds, lens, table);
-        if t.no != 0 {
-            return t;
-        }
-        if t.ans == 1 {
-            return steps::item_end(t, c, ITEM_MOD, kinds, lens, table);
-        }
-        return steps::item_end(t, c, ITEM_FILE_MOD, kinds, lens, table);
-    }
-    s3(tape, c, constant, k, kinds, lens, table)
-}
-
-fn s3(
-    tape: Tape,
-    c: usize,
-    constant: bool,
-    k: u8,
-    kinds: &[u8],
-    lens: &[u32],
-    table: &mut [u32],
-) -> Tape
-    requires { ⌜ Marked c tape (now table) × Ready tape (now kinds) (now lens) (now table) ⌝ }
-    ensures { λ r. ⌜ Step c (stmt-value constant k) (r .ans) tape r (now (kinds .entry)) (now (lens .entry)) (now (table .entry)) (now (table .exit)) ⌝ }
-{
-    if kinds::classes::allows(constant, IDENT, k) {
-        let t = h(tape, kinds, lens, table);
-        if t.no != 0 {
-            return t;
-        }
-        return steps::item_end(t, c, ITEM_CONST, kinds, lens, table);
-    }
-    let mut t = pieces::streams::labels(tape, kinds, lens, table);
-    if t.no != 0 {
-        return t;
-    }
-    t = ou(t, true, true, true, true, kinds, lens, table);
-    if t.no != 0 {
-        return t;
-    }
-    if t.ans == ERROR {
-        t.ans = ERROR;
-        return t;
-    }
-    t.ans = EXPR;
-    t
-}
-
-fn l(tape: Tape, cx: bool, kinds: &[u8], lens: &[u32], table: &mut [u32]) -> Tape
-    requires { ⌜ Ready tape (now kinds) (now lens) (now table) ⌝ }
-    ensures { λ r. ⌜ Ran (local cx) tt tape r (now (kinds .entry)) (now (lens .entry)) (now (table .entry)) (now (table .exit)) ⌝ }
-{
-    let mut t = tape.bump(kinds, lens, table);
-    if t.no != 0 {
-        return t;
-    }
-    t = pieces::patterns::pat(t, kinds, lens, table);
-    if t.no != 0 {
-        return t;
-    }
-    t = t.bump_if(EQ, kinds, lens, table);
-    if t.no != 0 {
-        return t;
-    }
-    ex(t, true, true, true, cx, kinds, lens, table)
-}
-
-fn h(tape: Tape, kinds: &[u8], lens: &[u32], table: &mut [u32]) -> Tape
-    requires { ⌜ Ready tape (now kinds) (now lens) (now table) ⌝ }
-    ensures { λ r. ⌜ Ran item-const tt tape r (now (kinds .entry)) (now (lens .entry)) (now (table .entry)) (now (table .exit)) ⌝ }
-{
-    let mut t = tape.bump(kinds, lens, table);
-    if t.no != 0 {
-        return t;
-    }
-    t = t.bump_if(EQ, kinds, lens, table);
-    if t.no != 0 {
-        return t;
-    }
-    ex(t, true, true, true, false, kinds, lens, table)
-}
-
-fn it(tape: Tape, kinds: &[u8], lens: &[u32], table: &mut [u32]) -> Tape
-    requires { ⌜ Ready tape (now kinds) (now lens) (now table) ⌝ }
-    ensures { λ r. ⌜ Ran item-fn tt tape r (now (kinds .entry)) (now (lens .entry)) (now (table .entry)) (now (table .exit)) ⌝ }
-{
-    let mut t = tape.bump(kinds, lens, table);
-    if t.no != 0 {
-        return t;
-    }
-    t = t.bump_if(IDENT, kinds, lens, table);
-    if t.no != 0 {
-        return t;
-    }
-    t = pieces::items::fn_args(t, kinds, lens, table);
-    if t.no != 0 {
-        return t;
-    }
-    if t.peek(kinds) == BRACE {
-        return bl(t, kinds, lens, table);
-    }
-    t
-}
-
-fn i(tape: Tape, kinds: &[u8], lens: &[u32], table: &mut [u32]) -> Tape
-    requires { ⌜ Ready tape (now kinds) (now lens) (now table) ⌝ }
-    ensures { λ r. ⌜ Ran item-impl tt tape r (now (kinds .entry)) (now (lens .entry)) (now (table .entry)) (now (table .exit)) ⌝ }
-{
-    let mut t = tape.bump(kinds, lens, table);
-    if t.no != 0 {
-        return t;
-    }
-    t = pieces::items::impl_path(t, kinds, lens, table);
-    if t.no != 0 {
-        return t;
-    }
-    bl(t, kinds, lens, table)
-}
-
-fn im(tape: Tape, kinds: &[u8], lens: &[u32], table: &mut [u32]) -> Tape
-    requires { ⌜ Ready tape (now kinds) (now lens) (now table) ⌝ }
-    ensures { λ r. ⌜ Ran item-mod (said r) tape r (now (kinds .entry)) (now (lens .entry)) (now (table .entry)) (now (table .exit)) ⌝ }
-{
-    let mut t = tape.bump(kinds, lens, table);
-    if t.no != 0 {
-        return t;
-    }
-    t = t.bump_if(IDENT, kinds, lens, table);
-    if t.no != 0 {
-        return t;
-    }
-    if t.peek(kinds) == BRACE {
-        t = bl(t, kinds, lens, table);
-        if t.no != 0 {
-            return t;
-        }
-        t.ans = 1;
-        return t;
-    }
-    t.ans = 0;
     t
 }

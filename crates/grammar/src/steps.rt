@@ -1,28 +1,28 @@
 // Steps of the cycle that call none of its rules.
 ghost use mathlib.Core.Path.{_≡_};
 ghost use Prim.Native.Nat.{_<_};
-ghost use Rattle.definition.specs.Grammar.{field-link, finish as finishProg, macro-call, operator as operatorProg, recover as recoverProg, recovery as recoveryProg, stmt-end};
+ghost use Rattle.definition.specs.Grammar.{field-link, finish as finishProg, macro-call, operator as operatorProg, recover as recoverProg, recovery as recoveryProg, stmt-item};
+ghost use Rattle.definition.specs.Prog.{mark as marking};
+ghost use Rattle.kinds.specs.Modes.{cxOf};
 ghost use Rattle.kinds.specs.Ops.{opOf};
 ghost use Rattle.kinds.specs.Matchers.{matcherOf};
-ghost use Rattle.tape.specs.View.{said, Ready, Marked, Step, Ran};
+ghost use Rattle.tape.specs.View.{said, Ready, Marked, Held, Step, Follows, Ran};
 ghost use Rattle.grammar.specs.Looked.{Next, Small};
-use kinds::AWAIT;
-use kinds::ERROR;
-use kinds::EXPR_AWAIT;
-use kinds::EXPR_FIELD;
-use kinds::EXPR_MACRO_CALL;
-use kinds::EXPR_OPERATOR;
-use kinds::ITEM;
-use kinds::NUMBER;
 use kinds::matcher::Matcher;
+use kinds::modes::ExprCx;
 use kinds::operators::Op;
+use kinds::*;
 use tape::Tape;
 
-// A node, and its kind as the answer.
+// A node, and its kind as the answer: the end of a case of expr_primary, outer_expr_with, expr_range and of a link. The tape that it is given may be a refused one, which comes back
+// as it is: the `?` behind the call before it.
 pub fn finish(tape: Tape, c: usize, kind: u8, kinds: &[u8], lens: &[u32], table: &mut [u32]) -> Tape
-    requires { ⌜ Marked c tape (now table) × Ready tape (now kinds) (now lens) (now table) ⌝ }
-    ensures { λ r. ⌜ Step c (finishProg kind) (r .ans) tape r (now (kinds .entry)) (now (lens .entry)) (now (table .entry)) (now (table .exit)) ⌝ }
+    requires { ⌜ Held c tape (now kinds) (now lens) (now table) ⌝ }
+    ensures { λ r. ⌜ Follows c (finishProg (marking c) kind) (r .ans) tape r (now (kinds .entry)) (now (lens .entry)) (now (table .entry)) (now (table .exit)) ⌝ }
 {
+    if tape.no != 0 {
+        return tape;
+    }
     let mut t = tape.close_at(c, kind, kinds, lens, table);
     if t.no != 0 {
         return t;
@@ -31,8 +31,8 @@ pub fn finish(tape: Tape, c: usize, kind: u8, kinds: &[u8], lens: &[u32], table:
     t
 }
 
-// The end of an item.
-pub fn item_end(
+// The end of an item, the same way: a node over stmt's inner mark, and Item as the answer.
+pub fn stmt_item(
     tape: Tape,
     c: usize,
     kind: u8,
@@ -40,9 +40,12 @@ pub fn item_end(
     lens: &[u32],
     table: &mut [u32],
 ) -> Tape
-    requires { ⌜ Marked c tape (now table) × Ready tape (now kinds) (now lens) (now table) ⌝ }
-    ensures { λ r. ⌜ Step c (stmt-end kind) (r .ans) tape r (now (kinds .entry)) (now (lens .entry)) (now (table .entry)) (now (table .exit)) ⌝ }
+    requires { ⌜ Held c tape (now kinds) (now lens) (now table) ⌝ }
+    ensures { λ r. ⌜ Follows c (stmt-item (marking c) kind) (r .ans) tape r (now (kinds .entry)) (now (lens .entry)) (now (table .entry)) (now (table .exit)) ⌝ }
 {
+    if tape.no != 0 {
+        return tape;
+    }
     let mut t = tape.close_at(c, kind, kinds, lens, table);
     if t.no != 0 {
         return t;
@@ -51,7 +54,7 @@ pub fn item_end(
     t
 }
 
-// A macro's tokens.
+// A macro call (expr_primary, 756).
 pub fn macro_call(
     tape: Tape,
     c: usize,
@@ -61,7 +64,7 @@ pub fn macro_call(
     table: &mut [u32],
 ) -> Tape
     requires { ⌜ Marked c tape (now table) × Ready tape (now kinds) (now lens) (now table) ⌝ }
-    ensures { λ r. ⌜ Step c (macro-call (matcherOf m)) (r .ans) tape r (now (kinds .entry)) (now (lens .entry)) (now (table .entry)) (now (table .exit)) ⌝ }
+    ensures { λ r. ⌜ Step c (macro-call (marking c) (matcherOf m)) (r .ans) tape r (now (kinds .entry)) (now (lens .entry)) (now (table .entry)) (now (table .exit)) ⌝ }
 {
     let mut t = tape.bump(kinds, lens, table);
     if t.no != 0 {
@@ -76,13 +79,10 @@ pub fn macro_call(
         return t;
     }
     t = t.bump(kinds, lens, table);
-    if t.no != 0 {
-        return t;
-    }
     finish(t, c, EXPR_MACRO_CALL, kinds, lens, table)
 }
 
-// A link that begins with a dot.
+// A link that begins with a dot (expr_chain, 934).
 pub fn field_link(tape: Tape, kinds: &[u8], lens: &[u32], table: &mut [u32]) -> Tape
     requires { ⌜ Ready tape (now kinds) (now lens) (now table) ⌝ }
     ensures { λ r. ⌜ Ran field-link (r .ans) tape r (now (kinds .entry)) (now (lens .entry)) (now (table .entry)) (now (table .exit)) ⌝ }
@@ -120,12 +120,12 @@ pub fn field_link(tape: Tape, kinds: &[u8], lens: &[u32], table: &mut [u32]) -> 
     t
 }
 
-// An operator's tokens as a node.
+// An operator's tokens as a node (expr_binary, 1252).
 pub fn operator(tape: Tape, op: Op, kinds: &[u8], lens: &[u32], table: &mut [u32]) -> Tape
     requires { ⌜ Ready tape (now kinds) (now lens) (now table) ⌝ }
     ensures { λ r. ⌜ Ran (operatorProg (opOf op)) tt tape r (now (kinds .entry)) (now (lens .entry)) (now (table .entry)) (now (table .exit)) ⌝ }
 {
-    let mut t = tape.flush_ws(kinds, lens, table);
+    let mut t = tape.mark(kinds, lens, table);
     if t.no != 0 {
         return t;
     }
@@ -137,6 +137,7 @@ pub fn operator(tape: Tape, op: Op, kinds: &[u8], lens: &[u32], table: &mut [u32
     t.close_at(c, EXPR_OPERATOR, kinds, lens, table)
 }
 
+// recover of StmtCx (143).
 fn recovery(tape: Tape, kinds: &[u8], lens: &[u32], table: &mut [u32]) -> Tape
     requires { ⌜ Ready tape (now kinds) (now lens) (now table) ⌝ }
     ensures { λ r. ⌜ Ran recoveryProg tt tape r (now (kinds .entry)) (now (lens .entry)) (now (table .entry)) (now (table .exit)) ⌝ }
@@ -151,12 +152,12 @@ fn recovery(tape: Tape, kinds: &[u8], lens: &[u32], table: &mut [u32]) -> Tape
     t
 }
 
-// The end of the statement is looked for, or refusal 6.
-pub fn recover(tape: Tape, cx: bool, kinds: &[u8], lens: &[u32], table: &mut [u32]) -> Tape
+// recover (16, 143): the end of the statement is looked for, or refusal 6.
+pub fn recover(tape: Tape, cx: ExprCx, kinds: &[u8], lens: &[u32], table: &mut [u32]) -> Tape
     requires { ⌜ Ready tape (now kinds) (now lens) (now table) ⌝ }
-    ensures { λ r. ⌜ Ran (recoverProg cx) tt tape r (now (kinds .entry)) (now (lens .entry)) (now (table .entry)) (now (table .exit)) ⌝ }
+    ensures { λ r. ⌜ Ran (recoverProg (cxOf cx)) tt tape r (now (kinds .entry)) (now (lens .entry)) (now (table .entry)) (now (table .exit)) ⌝ }
 {
-    if cx {
+    if kinds::modes::recovers(cx) {
         return recovery(tape, kinds, lens, table);
     }
     tape.refuse(6, tape.next)

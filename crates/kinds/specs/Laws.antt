@@ -8,7 +8,8 @@ use native.Mathlib.Omega.{arith}
 use lib.Dec.{eqb}
 use borrow.Author.Tests.{eqb-true, ne-eqb}
 use Rattle.definition.specs.Kinds.{Eof, K-is, K-not}
-use Rattle.definition.specs.Classes.{among, glues, allows, isToken, isTrivia, isObjectKey, isLit, isPathComponent, isStmtRecovering, isPat, isExprWith, isUnary, isUsePart, isUsePath, isPatOrRest, isSelectArm}
+use Rattle.definition.specs.Modes.{Brace, Range}
+use Rattle.definition.specs.Classes.{among, glues, isToken, isTrivia, isObjectKey, isLit, isPathComponent, isStmtRecovering, isPat, isExprWith, isUnary, isUsePart, isUsePath, isPatOrRest, isSelectArm}
 use Rattle.definition.specs.Operators.{bindings, bindingIn, isNone, from-slice}
 
 -- ## `among` as a chain of `||`, into which `rw` sees
@@ -26,7 +27,7 @@ among-is k (x ∷ l) = go (eqb k x) (among-is k l)
     go true h = refl
     go false h = h
 
--- ## What `glues` and `allows` have found
+-- ## What `glues` has found
 
 pub record Glued (a b k g : ℕ) : Type 0 where
   pub kind : k ≡ a
@@ -40,20 +41,8 @@ glues-some a b k g h =
       glued = eqb-true g b (and-eq-true-iff (eqb k a) (eqb g b) .0 h .1);
     }
 
-pub record Allowed (mode : Bool) (j k : ℕ) : Type 0 where
-  pub kind : k ≡ j
-  pub on : mode ≡ true
-
-pub allows-some : (mode : Bool) (j k : ℕ) → allows mode j k ≡ true → Allowed mode j k
-unfolding allows
-allows-some mode j k h =
-    record {
-      kind = eqb-true k j (and-eq-true-iff (eqb k j) mode .0 h .0);
-      on = and-eq-true-iff (eqb k j) mode .0 h .1;
-    }
-
 -- ## No class has Eof
--- Cited as `not-eof isLit (at-eof true true 0 .lit) h`: the class, that it has no Eof, and that it has k.
+-- Cited as `not-eof isLit (at-eof Brace.Yes Range.Yes 0 .lit) h`: the class, that it has no Eof, and that it has k.
 
 pub not-eof : (class : ℕ → Bool) {k : ℕ} → class Eof ≡ false → class k ≡ true → k ≡ 0 → ⊥
 not-eof class {k} none has e =
@@ -62,7 +51,7 @@ not-eof class {k} none has e =
     omega arith
 
 -- what each of these classes says of Eof, where g follows it; and no operator begins with it
-pub record AtEof (brace range : Bool) (g : ℕ) : Type 0 where
+pub record AtEof (brace : Brace) (range : Range) (g : ℕ) : Type 0 where
   pub token : isToken Eof ≡ false
   pub trivia : isTrivia Eof ≡ false
   pub object-key : isObjectKey Eof ≡ false
@@ -78,7 +67,7 @@ pub record AtEof (brace range : Bool) (g : ℕ) : Type 0 where
   pub select-arm : isSelectArm Eof g ≡ false
   pub operator : isNone (from-slice Eof g) ≡ true
 
-pub at-eof : (brace range : Bool) (g : ℕ) → AtEof brace range g
+pub at-eof : (brace : Brace) (range : Range) (g : ℕ) → AtEof brace range g
 unfolding among isToken isTrivia isObjectKey isLit isPathComponent isStmtRecovering isPat isExprWith isUnary isUsePart isUsePath isPatOrRest isSelectArm bindings bindingIn isNone from-slice
 at-eof brace range g =
     record {
@@ -98,14 +87,10 @@ at-eof brace range g =
       operator = refl;
     }
 
--- what `glues` and `allows` say of Eof, where they look for another kind
+-- what `glues` says of Eof, where it looks for another kind
 pub glues-eof : (a b g : ℕ) → 0 < a → glues a b Eof g ≡ false
 unfolding glues
 glues-eof a b g h = simp (ne-eqb 0 a (λ e. omega arith))
-
-pub allows-eof : (mode : Bool) (j : ℕ) → 0 < j → allows mode j Eof ≡ false
-unfolding allows
-allows-eof mode j h = simp (ne-eqb 0 j (λ e. omega arith))
 
 -- ## An operator takes one token or two, and two only where the second is there
 

@@ -1,10 +1,13 @@
-// The classes of kinds. Each test is proved equal to the class of that name in the definition, which is a list of names.
+// The classes of kinds. Each test is proved equal to the class of that name in the definition, which is made of lists of names.
 // A test is one expression with no branch, so that its proof is one computed test too; neighbours of docs/KINDS.md are compared as a range.
 // k is a kind, g the kind glued to it, j the second next.
 ghost use mathlib.Core.Path.{_≡_};
-ghost use Rattle.definition.specs.Classes.{glues as gluing, allows as allowing, isToken, treated as treatedAs, isTrivia, isObjectKey, isLit, isPathComponent, isStmtRecovering, isPat, isExprWith, isRange, kindIsCallable, linked as linking, isUnary, isUsePart, isUsePath, isPatOrRest, isSelectArm, inBlock, isSome};
+ghost use Rattle.definition.specs.Classes.{glues as gluing, bracedBy, rangedBy, namedConst, isToken, treated as treatedAs, isTrivia, isObjectKey, isLit, isPathComponent, isStmtRecovering, isPat, isExprWith, isRange, kindIsCallable, linked as linking, isUnary, isUsePart, isUsePath, isPatOrRest, isSelectArm, inBlock, isSome};
 ghost use Rattle.kinds.specs.Sets.{hasBit};
+ghost use Rattle.kinds.specs.Modes.{braceOf, rangeOf};
 use super::*;
+use crate::modes::Brace;
+use crate::modes::Range;
 
 // Whether k is a, with b glued to it.
 pub fn glues(a: u8, b: u8, k: u8, g: u8) -> bool
@@ -13,11 +16,25 @@ pub fn glues(a: u8, b: u8, k: u8, g: u8) -> bool
     (k == a) & (g == b)
 }
 
-// Whether k is j, and the mode allows it.
-pub fn allows(mode: bool, j: u8, k: u8) -> bool
-    ensures { λ r. ⌜ r ≡ allowing mode j k ⌝ }
+// Whether k is `{`, and the mode allows it.
+pub fn braced_by(brace: Brace, k: u8) -> bool
+    ensures { λ r. ⌜ r ≡ bracedBy (braceOf brace) k ⌝ }
 {
-    (k == j) & mode
+    (k == BRACE) & modes::is_brace(brace)
+}
+
+// Whether k is j, `..` or `..=`, and the mode allows it.
+pub fn ranged_by(range: Range, j: u8, k: u8) -> bool
+    ensures { λ r. ⌜ r ≡ rangedBy (rangeOf range) j k ⌝ }
+{
+    (k == j) & modes::is_ranged(range)
+}
+
+// Whether k is a name behind `const`.
+pub fn named_const(constant: bool, k: u8) -> bool
+    ensures { λ r. ⌜ r ≡ namedConst constant k ⌝ }
+{
+    (k == IDENT) & constant
 }
 
 // A token's kind, assigned or not.
@@ -124,15 +141,15 @@ pub fn is_pat(k: u8, g: u8) -> bool
 }
 
 // The first range is the path components and the literals.
-pub fn is_expr_with(brace: bool, range: bool, k: u8, g: u8) -> bool
-    ensures { λ r. ⌜ r ≡ isExprWith brace range k g ⌝ }
+pub fn is_expr_with(brace: Brace, range: Range, k: u8, g: u8) -> bool
+    ensures { λ r. ⌜ r ≡ isExprWith (braceOf brace) (rangeOf range) k g ⌝ }
 {
     (IDENT <= k) & (k <= BYTE)
         | (k / 64 == 0) & has(EXPR_SIGNS, k)
         | (k / 64 == 1) & has(EXPR_WORDS, k)
-        | (k == BRACE) & brace
+        | (k == BRACE) & modes::is_brace(brace)
         | (k == LABEL) & (g == COLON)
-        | (DOT_DOT <= k) & (k <= DOT_DOT_EQ) & range
+        | (DOT_DOT <= k) & (k <= DOT_DOT_EQ) & modes::is_ranged(range)
 }
 
 pub fn is_range(kind: u8) -> bool

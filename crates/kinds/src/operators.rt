@@ -17,14 +17,49 @@ pub struct Op {
     pub tokens: u8,
 }
 
-// The bindings of the kinds from DASH to GT_GT_EQ, a byte for each.
+// The bindings of the kinds from DASH to GT_GT_EQ, in the order of docs/KINDS.md; 0 for what is no operator.
+const BINDINGS: [u8; 34] = [
+    10, // -
+    8, // &
+    11, // *
+    0, // ?
+    0, // 'label
+    0, // #
+    5, // <
+    5, // >
+    10, // +
+    11, // /
+    11, // %
+    5, // ==
+    5, // !=
+    5, // <=
+    5, // >=
+    4, // &&
+    3, // ||
+    9, // <<
+    9, // >>
+    7, // ^
+    6, // |
+    13, // as
+    13, // is
+    0, // not
+    1, // +=
+    1, // -=
+    1, // *=
+    1, // /=
+    1, // %=
+    1, // &=
+    1, // ^=
+    1, // |=
+    1, // <<=
+    1, // >>=
+];
+
 fn binding_in(k: u8) -> u8
     requires { ⌜ (K-dash ≤ k) × (k ≤ K->>=) ⌝ }
     ensures { λ r. ⌜ Binds k r ⌝ }
 {
-    let bindings =
-        b"\x0a\x08\x0b\x00\x00\x00\x05\x05\x0a\x0b\x0b\x05\x05\x05\x05\x04\x03\x09\x09\x07\x06\x0d\x0d\x00\x01\x01\x01\x01\x01\x01\x01\x01\x01\x01";
-    bindings[(k - DASH) as usize]
+    BINDINGS[(k - DASH) as usize]
 }
 
 // The binding of an operator whose first kind is k. Most tokens behind an operand are of a kind before DASH, and look nothing up.
@@ -63,11 +98,11 @@ pub fn is_none(op: Op) -> bool
     op.binding == 0
 }
 
-// Whether it is none, or binds less than `least`.
+// Whether it binds less than `least`.
 pub fn is_below(least: u8, op: Op) -> bool
     ensures { λ r. ⌜ r ≡ isBelow least (opOf op) ⌝ }
 {
-    (op.binding == 0) | (op.binding < least)
+    op.binding < least
 }
 
 // Whether operators of a binding may stand side by side without parentheses.

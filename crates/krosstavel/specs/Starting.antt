@@ -1,28 +1,27 @@
 -- How an entry begins: at row 0, and with its separator as it is treated.
 -- Assumes nothing.
-use Prim.Native.Nat.{ℕ, _+_, _≤_, _<_}
+use Prim.Native.Nat.{ℕ, _≤_, _<_}
 use mathlib.Core.Path.{_≡_, refl, subst, sym, _∙_}
 use mathlib.Core.Bool.{Bool, true, false, cond, not, _&&_}
 use mathlib.Core.List.{List}
 use native.Mathlib.Omega.{arith}
-use lib.ListN.{length, drop}
 use lib.Dec.{leb}
 use borrow.Author.Tests.{leb-true}
-use Rattle.definition.specs.Kinds.{K-yield, K-Other}
-use Rattle.definition.specs.Classes.{treated, isToken, isTrivia, isSome}
-use Rattle.definition.specs.Tape.{State, Out, ok, refused, guard, startOf, leavesLen}
+use Rattle.definition.specs.Kinds.{K-Other}
+use Rattle.definition.specs.Classes.{isAssigned, treated, isToken, isTrivia, isSome}
+use Rattle.definition.specs.Tape.{State, ok, guard, startOf, leavesLen}
 use Rattle.definition.specs.Prog.{Prog}
 use Rattle.definition.specs.Parse.{start, admitted, root, exprs, format, isLimit, isEntry}
 use Rattle.laws.specs.Progress.{not-eof}
 use Rattle.laws.specs.Sizes.{Based}
-use Rattle.tape.specs.View.{stateOf, Marked, Step}
+use Rattle.tape.specs.View.{Marked, Step}
 use Rattle.tape.specs.declared.Tape.{Tape}
 use Rattle.entry.specs.Round.{Checked, Starts}
-use Rattle.entry.specs.declared.Fault.{Fault}
+use Rattle.entry.specs.declared.Refusal.{Refusal}
 
-pub record Treated (separator k : ℕ) : Type 0 where
-  pub is : k ≡ treated separator
-  pub some : 0 < k
+-- a separator is compared as a kind that is no Eof
+pub record Treated (separator : ℕ) : Type 0 where
+  pub some : 0 < treated separator
 
 -- row 0 is a mark
 pub marked-start : {limit : ℕ} {t : Tape} {ks ls : List ℕ} (tab : List ℕ) → Starts limit t ks ls → Marked 0 t tab
@@ -55,7 +54,7 @@ unfolding isEntry
 valid-format limit e = e ∙ with-true (isLimit limit)
 
 -- an input that passes the five tests has a valid limit and entry
-pub checked-valid : {valid : Bool} {ks ls : List ℕ} {a : Fault} → Checked valid ks ls a → a .number ≡ 0 → valid ≡ true
+pub checked-valid : {valid : Bool} {ks ls : List ℕ} {a : Refusal} → Checked valid ks ls a → a .number ≡ 0 → valid ≡ true
 unfolding admitted guard
 checked-valid {valid = valid} {ks = ks} {ls = ls} c z = go valid (c .passes z (λ u. ok tt start))
   where
@@ -82,9 +81,9 @@ fine b separator h =
     let e : (leb 1 separator && leb separator 127) ≡ true = and-first (leb 1 separator && leb separator 127) (not (isTrivia separator)) (and-second b (isEntry (exprs separator)) h) in
     record { some = leb-true 1 separator (and-first (leb 1 separator) (leb separator 127) e); small = leb-true separator 127 (and-second (leb 1 separator) (leb separator 127) e) }
 
-pub treated-is : {separator k : ℕ} → Fine separator → k ≡ treated separator → Treated separator k
+pub treated-some : {separator : ℕ} → Fine separator → Treated separator
 unfolding treated
-treated-is {separator} f e = record { is = e; some = rw e (go (leb separator K-yield)) }
+treated-some {separator} f = record { some = go (isAssigned separator) }
   where
     go : (b : Bool) → 0 < cond b separator K-Other
     go true = omega (arith, f .some)

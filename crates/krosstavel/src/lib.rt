@@ -8,11 +8,14 @@ ghost use Rattle.entry.specs.Promise.{Parsed, Answered};
 ghost use Rattle.krosstavel.specs.Starting.{Treated};
 use entry::Answer;
 use entry::Outcome;
+use grammar::expr;
+use grammar::stmt;
 use kinds::ROOT;
 use tape::Tape;
 
 // ## The rules root, exprs and format of grammar.rs. Their `open(Root)` marks row 0.
 
+// The end of each: pending trivia, and Root over all rows.
 fn close_root(tape: Tape, kinds: &[u8], lens: &[u32], table: &mut [u32]) -> Tape
     requires { ⌜ Marked 0 tape (now table) × Ready tape (now kinds) (now lens) (now table) ⌝ }
     ensures { λ r. ⌜ Step 0 close-root tt tape r (now (kinds .entry)) (now (lens .entry)) (now (table .entry)) (now (table .exit)) ⌝ }
@@ -24,13 +27,14 @@ fn close_root(tape: Tape, kinds: &[u8], lens: &[u32], table: &mut [u32]) -> Tape
     t.close_at(0, ROOT, kinds, lens, table)
 }
 
+// root (75).
 fn root_rule(tape: Tape, kinds: &[u8], lens: &[u32], table: &mut [u32]) -> Tape
     requires { ⌜ Marked 0 tape (now table) × Ready tape (now kinds) (now lens) (now table) ⌝ }
     ensures { λ r. ⌜ Step 0 rootProg tt tape r (now (kinds .entry)) (now (lens .entry)) (now (table .entry)) (now (table .exit)) ⌝ }
 {
     let mut t = tape;
     while kinds::classes::is_some(t.peek(kinds)) {
-        t = grammar::st(t, kinds, lens, table);
+        t = stmt(t, kinds, lens, table);
         if t.no != 0 {
             return t;
         }
@@ -38,21 +42,15 @@ fn root_rule(tape: Tape, kinds: &[u8], lens: &[u32], table: &mut [u32]) -> Tape
     close_root(t, kinds, lens, table)
 }
 
-// k is what the separator is treated as
-fn exprs_rule(
-    tape: Tape,
-    separator: u8,
-    k: u8,
-    kinds: &[u8],
-    lens: &[u32],
-    table: &mut [u32],
-) -> Tape
-    requires { ⌜ Marked 0 tape (now table) × (Treated separator k) × Ready tape (now kinds) (now lens) (now table) ⌝ }
+// exprs (88). An unassigned separator is read as Other, as tokens are.
+fn exprs_rule(tape: Tape, separator: u8, kinds: &[u8], lens: &[u32], table: &mut [u32]) -> Tape
+    requires { ⌜ Marked 0 tape (now table) × (Treated separator) × Ready tape (now kinds) (now lens) (now table) ⌝ }
     ensures { λ r. ⌜ Step 0 (exprsProg separator) tt tape r (now (kinds .entry)) (now (lens .entry)) (now (table .entry)) (now (table .exit)) ⌝ }
 {
+    let k = kinds::classes::treated(separator);
     let mut t = tape;
     while kinds::classes::is_some(t.peek(kinds)) {
-        t = grammar::ex(t, true, true, true, false, kinds, lens, table);
+        t = expr(t, kinds, lens, table);
         if t.no != 0 {
             return t;
         }
@@ -64,11 +62,12 @@ fn exprs_rule(
     close_root(t, kinds, lens, table)
 }
 
+// format (102).
 fn format_rule(tape: Tape, kinds: &[u8], lens: &[u32], table: &mut [u32]) -> Tape
     requires { ⌜ Marked 0 tape (now table) × Ready tape (now kinds) (now lens) (now table) ⌝ }
     ensures { λ r. ⌜ Step 0 formatProg tt tape r (now (kinds .entry)) (now (lens .entry)) (now (table .entry)) (now (table .exit)) ⌝ }
 {
-    let mut t = grammar::ex(tape, true, true, true, false, kinds, lens, table);
+    let mut t = expr(tape, kinds, lens, table);
     if t.no != 0 {
         return t;
     }
@@ -109,8 +108,7 @@ pub fn exprs(kinds: &[u8], lens: &[u32], table: &mut [u32], separator: u32, limi
         return entry::refuse(f.number, f.place, table);
     }
     let t = entry::begin(kinds, lens, limit);
-    let s = separator as u8;
-    let u = exprs_rule(t, s, kinds::classes::treated(s), kinds, lens, table);
+    let u = exprs_rule(t, separator as u8, kinds, lens, table);
     entry::finish(u, table)
 }
 

@@ -5,15 +5,16 @@ use mathlib.Core.Path.{_≡_, refl}
 use mathlib.Core.Bool.{Bool, true, false}
 use mathlib.Core.Logic.{_⊎_, inl, inr}
 use lib.ListN.{length}
-use lib.Dec.{ltb}
+use lib.Dec.{ltb, eqb}
 use borrow.Author.Tests.{ltb-true}
-use Rattle.definition.specs.Tape.{In, State, Out, ok, refused, andThen, choose, guard, room, wroteLeaf, leafAt, leavesAt, flushAt, bumpAt, wroteNode, closeAt}
-use Rattle.definition.specs.Prog.{Prog, done, seq, nth, glued, here, flush, bump, scope, close, stop, enter, test, repeat, Rule, Calls, turn, turns, eval, call}
+use Rattle.definition.specs.Tape.{In, State, Out, ok, refused, fault, andThen, choose, guard, room, wroteLeaf, leafAt, leavesAt, flushAt, bumpAt, wroteNode, closeAt}
+use Rattle.definition.specs.Prog.{Prog, mark, done, seq, nth, glued, here, flush, bump, scope, close, stop, enter, test, repeat, Rule, Calls, turn, turns, eval, call}
 
 -- where an outcome goes on, its state is related to s
 abbrev pub After : {A : Type 0} → (State → State → Type 0) → State → Out A → Type 0
 After R s (ok a t) = R s t
 After R s (refused n pl) = Unit {0}
+After R s (fault w) = Unit {0}
 
 -- A relation, for each mark, that the moves keep: a leaf, and a node over the rows since the mark. What is done under a mark of its own
 -- (in a scope, or by a rule that is entered) is done under any mark.
@@ -28,12 +29,14 @@ module _ (i : In) (R : ℕ → State → State → Type 0) (K : Kept i R) (m : �
   after-trans : {A : Type 0} (s t : State) (o : Out A) → R m s t → After (R m) t o → After (R m) s o
   after-trans s t (ok a u) h g = K .trans m s t u h g
   after-trans s t (refused n pl) h g = tt
+  after-trans s t (fault w) h g = tt
 
   pub after-then : {A B : Type 0} (s : State) (o : Out A) (f : A → State → Out B) →
       After (R m) s o → ((a : A) (t : State) → After (R m) t (f a t)) → After (R m) s (andThen o f)
   unfolding andThen
   after-then s (ok a t) f h g = after-trans s t (f a t) h (g a t)
   after-then s (refused n pl) f h g = tt
+  after-then s (fault w) f h g = tt
 
   after-guard : {A : Type 0} (s : State) (b : Bool) (n pl : ℕ) (k : Unit {0} → Out A) → (b ≡ true → After (R m) s (k tt)) → After (R m) s (guard b n pl k)
   unfolding guard
@@ -65,7 +68,7 @@ module _ (i : In) (R : ℕ → State → State → Type 0) (K : Kept i R) (m : �
   pub after-turn : {A B : Type 0} (s : State) (k : A → State → Out B) → ((a : A) (t : State) → After (R m) t (k a t)) →
       (x : A ⊎ B) (t : State) → After (R m) t (turn i s k x t)
   unfolding turn
-  after-turn s k h (inl a) t = after-guard t _ 0 0 _ (λ e. h a t)
+  after-turn s k h (inl a) t = after-choose t _ _ _ (λ e. h a t) (λ e. tt)
   after-turn s k h (inr b) t = K .same m t
 
   after-turns : {A B : Type 0} (n : ℕ) (f : A → State → Out (A ⊎ B)) → ((a : A) (s : State) → After (R m) s (f a s)) →
@@ -78,6 +81,7 @@ module _ (i : In) (R : ℕ → State → State → Type 0) (K : Kept i R) (m : �
   after-inside : {A : Type 0} (s : State) (o : Out A) → After (R (length (s .out))) s o → After (R m) s o
   after-inside s (ok a t) h = K .inside m s t h
   after-inside s (refused n pl) h = tt
+  after-inside s (fault w) h = tt
 
 module _ (i : In) (R : ℕ → State → State → Type 0) (K : Kept i R) where
   pub after-eval : {A : Type 0} (e : Calls) → ((r : Rule) (s : State) → After (R (length (s .out))) s (e r s)) →
@@ -90,10 +94,12 @@ module _ (i : In) (R : ℕ → State → State → Type 0) (K : Kept i R) where
   after-eval e h m here s = K .same m s
   after-eval e h m flush s = after-leaves i R K m _ s
   after-eval e h m bump s = after-leaves i R K m _ s
-  after-eval e h m (scope p) s =
+  after-eval e h m (scope f) s =
       after-then i R K m s (flushAt i s) _ (after-leaves i R K m _ s)
-      (λ u t. after-inside i R K m t (eval i e (length (t .out)) p t) (after-eval e h (length (t .out)) p t))
-  after-eval e h m (close k) s = after-close i R K m k s
+      (λ u t.
+      let n = length (t .out) in
+      after-inside i R K m t (eval i e n (f (mark n)) t) (after-eval e h n (f (mark n)) t))
+  after-eval e h m (close c k) s = after-choose i R K m s (eqb (c .row) m) _ _ (λ x. after-close i R K m k s) (λ x. tt)
   after-eval e h m (stop n pl) s = tt
   after-eval e h m (enter r) s = after-inside i R K m s (e r s) (h r s)
   after-eval e h m (test b p q) s = after-choose i R K m s b _ _ (λ x. after-eval e h m p s) (λ x. after-eval e h m q s)

@@ -6,6 +6,8 @@ use mathlib.Core.Path.{_≡_, refl}
 use mathlib.Core.List.{List, [], _∷_, _++_, map}
 use lib.ListN.{length, replicate}
 use Rattle.definition.specs.Kinds.{K-comma, K-ident, K-Whitespace, K-+, Path, ExprOperator, ExprBinary, Expr, Root, K-number, Lit, K-==, K-*, K-&&, K-paren, K-paren-end, ExprGroup, ExprTuple, K-dotdot, ExprRangeFrom, K-dotdot=, Error, K-=, K-semi, ExprAssign, K-#, K-bracket}
+use Rattle.definition.specs.Kinds as Kinds
+use Rattle.definition.specs.Modes as Modes
 use Rattle.definition.specs.Classes as Classes
 use Rattle.definition.specs.Operators as Operators
 use Rattle.definition.specs.Tape as Tape
@@ -45,7 +47,7 @@ abbrev pub promised : Case → List ℕ
 promised c = c .number ∷ c .place ∷ (length (c .rows) / 4) ∷ (c .rows ++ replicate (c .size - length (c .rows)) 0)
 
 unfoldable pub answered : Case → List ℕ
-unfolding Classes.among Classes.glues Classes.allows Classes.isToken Classes.treated Classes.isTrivia Classes.isObjectKey Classes.isLit Classes.isPathComponent Classes.isStmtRecovering Classes.isPat Classes.isExprWith Classes.isRange Classes.kindIsCallable Classes.linked Classes.isUnary Classes.isUsePart Classes.isUsePath Classes.isPatOrRest Classes.isSelectArm Classes.inBlock Classes.isSome Operators.bindings Operators.associative Operators.bindingIn Operators.from-slice Operators.isNone Operators.isBelow Operators.isTighter Operators.clashes Tape.elements Tape.capacity Tape.andThen Tape.choose Tape.guard Tape.triv Tape.nthKind Tape.hereAt Tape.nthAt Tape.gluedKind Tape.gluedAt Tape.room Tape.wroteLeaf Tape.leafAt Tape.leavesAt Tape.flushAt Tape.bumpAt Tape.leavesLen Tape.startOf Tape.nodeOver Tape.wroteNode Tape.closeAt Prog.left Prog.turn Prog.turns Prog.eval Prog.call Grammar.bump-if Grammar.bump-while-turn Grammar.bump-while Grammar.push Grammar.empty Grammar.while-turn Grammar.stmt Grammar.item-use Grammar.pat Grammar.path Grammar.outer-expr-with Grammar.expr-binary Grammar.opens Grammar.shuts Grammar.level-after Grammar.stream-step Grammar.stream-turn Grammar.stream Grammar.token-stream Grammar.attribute-stream Grammar.inner-attribute Grammar.inner-attributes Grammar.attribute Grammar.attributes Grammar.label Grammar.labels Grammar.generic-path Grammar.generic-paths Grammar.generics Grammar.generics-all Grammar.path-segment Grammar.path-segments Grammar.path-body Grammar.modifier-kind Grammar.modifier-paren Grammar.modifier-pub Grammar.modifiers-turn Grammar.modifiers Grammar.pat-or-rest Grammar.pat-item Grammar.pat-items Grammar.pat-parens Grammar.pat-value Grammar.pat-object-key Grammar.pat-object-turn Grammar.pat-object-items Grammar.pat-object Grammar.pat-negative Grammar.pat-path Grammar.pat-group Grammar.pat-anonymous Grammar.pat-kind Grammar.pat-body Grammar.pat-list Grammar.field Grammar.fields Grammar.field-body Grammar.any-body Grammar.item-struct Grammar.use-item Grammar.use-path Grammar.use-paths Grammar.use-group Grammar.item-use-turn Grammar.use-parts Grammar.item-use-body Grammar.variant-item Grammar.variant Grammar.variants Grammar.enum-body Grammar.item-enum Grammar.expr-with Grammar.expr-if-any Grammar.expr-list Grammar.items Grammar.parenthesized Grammar.block-stmts Grammar.block-body Grammar.block-open Grammar.block-with Grammar.block Grammar.condition-init Grammar.condition-let Grammar.condition Grammar.else-if Grammar.else-branch Grammar.else-branches Grammar.expr-if Grammar.expr-while Grammar.expr-loop Grammar.for-in Grammar.expr-for Grammar.expr-after Grammar.match-case Grammar.match-arm Grammar.match-list Grammar.match-arms Grammar.expr-match Grammar.select-pat Grammar.select-case Grammar.select-arm Grammar.select-list Grammar.select-arms Grammar.expr-select Grammar.empty-group Grammar.tuple-turn Grammar.tuple-items Grammar.expr-tuple-or-group Grammar.object-field Grammar.object-fields Grammar.expr-object Grammar.recovery Grammar.recover Grammar.macro-call Grammar.primary-path Grammar.closure-arguments Grammar.range-to Grammar.range-to-inclusive Grammar.anonymous-object Grammar.primary-last Grammar.primary-block Grammar.primary-give Grammar.primary-jump Grammar.primary-word Grammar.primary-unary Grammar.primary-prefix Grammar.primary-group Grammar.primary-kind Grammar.expr-primary Grammar.field-link Grammar.chain-link Grammar.chain-step Grammar.chain-turn Grammar.expr-chain Grammar.range-rest Grammar.expr-range Grammar.advance Grammar.nest Grammar.tighter-turn Grammar.operand Grammar.operator Grammar.binary-turn Grammar.binary-body Grammar.outer-assign Grammar.outer-binary Grammar.outer-op Grammar.outer-rest Grammar.outer-chain Grammar.outer-body Grammar.item-const Grammar.local Grammar.fn-arg-list Grammar.fn-args Grammar.fn-body Grammar.item-fn Grammar.impl-path Grammar.item-impl Grammar.item-mod Grammar.stmt-expr Grammar.stmt-end Grammar.stmt-mod Grammar.stmt-value Grammar.stmt-block Grammar.stmt-kind Grammar.stmt-inner Grammar.stmt-outer Grammar.stmt-body Grammar.grammar Grammar.root Grammar.separated Grammar.exprs Grammar.format Parse.program Parse.firstNot Parse.firstOver Parse.isLimit Parse.isEntry Parse.admitted Parse.run Parse.start Parse.parse Parse.flat Parse.numberOf Parse.placeOf Parse.rowsOf Parse.tableOf
+unfolding Kinds.tokens Modes.isBrace Modes.isRanged Modes.isBinary Modes.recovers Modes.areExprs Classes.among Classes.glues Classes.bracedBy Classes.rangedBy Classes.namedConst Classes.isToken Classes.isAssigned Classes.treated Classes.isTrivia Classes.isObjectKey Classes.isLit Classes.isPathComponent Classes.isStmtRecovering Classes.isPat Classes.isExprWith Classes.isRange Classes.kindIsCallable Classes.linked Classes.isUnary Classes.isUsePart Classes.isUsePath Classes.isPatOrRest Classes.isSelectArm Classes.inBlock Classes.isSome Operators.bindings Operators.associative Operators.bindingIn Operators.from-slice Operators.isNone Operators.isBelow Operators.isTighter Operators.clashes Tape.elements Tape.capacity Tape.andThen Tape.choose Tape.guard Tape.triv Tape.nthKind Tape.hereAt Tape.nthAt Tape.gluedKind Tape.gluedAt Tape.room Tape.wroteLeaf Tape.leafAt Tape.leavesAt Tape.flushAt Tape.bumpAt Tape.leavesLen Tape.startOf Tape.nodeOver Tape.wroteNode Tape.closeAt Prog.left Prog.turn Prog.turns Prog.eval Prog.call Grammar.bump-if Grammar.bump-while-turn Grammar.bump-while Grammar.push Grammar.empty Grammar.while-turn Grammar.stmt Grammar.item-use Grammar.pat Grammar.path Grammar.outer-expr-with Grammar.expr-binary Grammar.opens Grammar.shuts Grammar.level-after Grammar.stream-step Grammar.stream-turn Grammar.stream Grammar.token-stream Grammar.attribute-stream Grammar.inner-attribute Grammar.inner-attributes Grammar.attribute Grammar.attributes Grammar.label Grammar.labels Grammar.generic-path Grammar.generic-paths Grammar.generics Grammar.generics-all Grammar.path-segment Grammar.path-segments Grammar.path-text Grammar.modifier-kind Grammar.modifier-paren Grammar.modifier-pub Grammar.modifiers-turn Grammar.modifiers Grammar.pat-or-rest Grammar.pat-item Grammar.pat-items Grammar.pat-parens Grammar.pat-value Grammar.pat-object-key Grammar.pat-object-turn Grammar.pat-object-items Grammar.pat-object Grammar.pat-negative Grammar.pat-path Grammar.pat-group Grammar.pat-anonymous Grammar.pat-kind Grammar.pat-text Grammar.pat-list Grammar.field Grammar.fields Grammar.field-body Grammar.any-body Grammar.item-struct Grammar.use-item Grammar.use-path Grammar.use-paths Grammar.use-group Grammar.item-use-turn Grammar.use-parts Grammar.item-use-text Grammar.variant-item Grammar.variant Grammar.variants Grammar.enum-body Grammar.item-enum Grammar.expr-with Grammar.expr-if-any Grammar.expr-list Grammar.items Grammar.parenthesized Grammar.block-stmts Grammar.block-body Grammar.block-open Grammar.block-with Grammar.block Grammar.condition-init Grammar.condition-let Grammar.condition Grammar.else-if Grammar.else-branch Grammar.else-branches Grammar.expr-if Grammar.expr-while Grammar.expr-loop Grammar.for-in Grammar.expr-for Grammar.expr-after Grammar.match-case Grammar.match-arm Grammar.match-list Grammar.match-arms Grammar.expr-match Grammar.select-pat Grammar.select-case Grammar.select-arm Grammar.select-list Grammar.select-arms Grammar.expr-select Grammar.empty-group Grammar.tuple-turn Grammar.tuple-items Grammar.expr-tuple-or-group Grammar.object-field Grammar.object-fields Grammar.expr-object Grammar.recovery Grammar.recover Grammar.macro-call Grammar.primary-path Grammar.closure-arguments Grammar.range-to Grammar.expr-primary Grammar.field-link Grammar.chain-link Grammar.chain-step Grammar.chain-turn Grammar.expr-chain Grammar.range-rest Grammar.expr-range Grammar.advance Grammar.operator Grammar.nest Grammar.tighter-turn Grammar.operand Grammar.binary-turn Grammar.expr-binary-text Grammar.outer-binary Grammar.outer-expr-with-text Grammar.item-const Grammar.local Grammar.fn-arg-list Grammar.fn-args Grammar.fn-body Grammar.item-fn Grammar.impl-path Grammar.item-impl Grammar.item-mod Grammar.stmt-expr Grammar.stmt-item Grammar.stmt-mod Grammar.stmt-text Grammar.stmt-once Grammar.grammar Grammar.root Grammar.separated Grammar.exprs Grammar.format Parse.program Parse.firstNot Parse.firstOver Parse.isLimit Parse.isEntry Parse.admitted Parse.run Parse.start Parse.parse Parse.flat Parse.numberOf Parse.placeOf Parse.rowsOf Parse.tableOf
 answered c =
     let o = Parse.parse (c .entry) (c .kinds) (c .lens) (c .size) (c .limit) in
     Parse.numberOf o ∷ Parse.placeOf o ∷ length (Parse.rowsOf o) ∷ Parse.tableOf (c .size) o

@@ -1,6 +1,6 @@
 -- What is seen of the lists: where the trivia end, and which kind stands there.
 -- Assumes nothing.
-use Prim.Native.Nat.{ℕ, zero, suc, _+_, _≤_, _<_}
+use Prim.Native.Nat.{ℕ, suc, _+_, _≤_, _<_}
 use mathlib.Core.Path.{_≡_, refl, ap, sym, _∙_}
 use mathlib.Core.Bool.{Bool, true, false}
 use mathlib.Core.List.{List, [], _∷_}
@@ -8,8 +8,8 @@ use native.Mathlib.Omega.{arith}
 use native.Mathlib.Numerals.{add-one}
 use native.Mathlib.Decide.{decLt}
 use lib.ListN.{length, length-drop, drop, getD, drop-of-length-le, List·getD-eq-default}
-use lib.Seq.{drop-cons, getD-drop, drop-drop, drop-nil}
-use Rattle.definition.specs.Classes.{among, isTrivia, treated}
+use lib.Seq.{drop-cons, getD-drop, drop-drop}
+use Rattle.definition.specs.Classes.{among, isTrivia, isAssigned, treated}
 use Rattle.definition.specs.Tape.{triv, nthKind, gluedKind}
 
 -- the place of the first token from n on that is no trivia, or the length
@@ -56,7 +56,7 @@ skipped-ge l n = omega arith
 
 -- the next kind stands behind the trivia
 next-is : (l : List ℕ) → nthKind 0 l ≡ treated (getD l (triv l) 0)
-unfolding nthKind triv treated
+unfolding nthKind triv treated isAssigned among
 next-is [] = refl
 next-is (k ∷ l) = go (next-is l) (isTrivia k) refl
   where
@@ -155,5 +155,5 @@ glued-next l j h p = go (isTrivia (getD l j 0)) refl
 
 -- nothing does
 pub glued-end : (l : List ℕ) (j : ℕ) → length l ≤ j → gluedKind (getD l j 0) ≡ 0
-unfolding gluedKind isTrivia treated among
+unfolding gluedKind isTrivia treated isAssigned among
 glued-end l j h = rw (List·getD-eq-default l 0 {n = j} h)

@@ -1,6 +1,6 @@
 -- More depth changes no outcome but refusal 10, and more room none but refusal 11. Both are one induction over the language.
 -- Assumes nothing.
-use Prim.Native.Nat.{ℕ, zero, suc, _+_, _≤_, _<_}
+use Prim.Native.Nat.{ℕ, zero, suc, _+_, _≤_}
 use mathlib.Core.Path.{_≡_, refl, ap, subst, sym, _∙_}
 use mathlib.Core.Bool.{Bool, true, false}
 use mathlib.Core.Logic.{_⊎_, inl, inr}
@@ -8,15 +8,16 @@ use mathlib.Core.List.{List}
 use native.Mathlib.Omega.{arith}
 use native.Mathlib.Nat.{zero-add, suc-add}
 use lib.ListN.{length}
-use lib.Dec.{ltb}
+use lib.Dec.{ltb, eqb}
 use borrow.Author.Tests.{ltb-true, lt-ltb}
-use Rattle.definition.specs.Tape.{In, State, Out, ok, refused, andThen, choose, guard, room, wroteLeaf, hereAt, nthAt, gluedAt, triv, leafAt, leavesAt, flushAt, bumpAt, wroteNode, closeAt}
-use Rattle.definition.specs.Prog.{Prog, done, seq, nth, glued, here, flush, bump, scope, close, stop, enter, test, repeat, Rule, Calls, left, turn, turns, eval, call}
+use Rattle.definition.specs.Tape.{In, State, Out, ok, refused, fault, andThen, choose, guard, room, wroteLeaf, hereAt, nthAt, gluedAt, leafAt, leavesAt, flushAt, bumpAt, closeAt}
+use Rattle.definition.specs.Prog.{Prog, mark, done, seq, nth, glued, here, flush, bump, scope, close, stop, enter, test, repeat, Rule, Calls, left, turn, turns, eval, call}
 
 -- an outcome that is refusal n
 abbrev pub Refused : {A : Type 0} → ℕ → Out A → Type 0
 Refused n (ok a s) = ⊥
 Refused n (refused k pl) = k ≡ n
+Refused n (fault w) = ⊥
 
 -- the second outcome is the first, unless that is refusal n
 abbrev pub Below : {A : Type 0} → ℕ → Out A → Out A → Type 0
@@ -39,11 +40,8 @@ module _ (n : ℕ) where
   below-then (ok a s) p f g (inr e) h = subst (λ (x : Out _). Below n (f a s) (andThen x g)) e (h a s)
   below-then (refused k pl) p f g (inl t) h = inl t
   below-then (refused k pl) p f g (inr e) h = inr (ap (λ (x : Out _). andThen x g) e)
-
-  below-guard : {A : Type 0} (b : Bool) (k pl : ℕ) (f g : Unit {0} → Out A) → Below n (f tt) (g tt) → Below n (guard b k pl f) (guard b k pl g)
-  unfolding guard
-  below-guard true k pl f g h = h
-  below-guard false k pl f g h = inr refl
+  below-then (fault w) p f g (inl t) h = absurd t
+  below-then (fault w) p f g (inr e) h = inr (ap (λ (x : Out _). andThen x g) e)
 
   below-choose : {A : Type 0} (b : Bool) (f f′ g g′ : Unit {0} → Out A) → Below n (f tt) (f′ tt) → Below n (g tt) (g′ tt) → Below n (choose b f g) (choose b f′ g′)
   unfolding choose
@@ -70,7 +68,7 @@ module _ (n : ℕ) (ks ls : List ℕ) (c d : ℕ) (leaf : (s : State) → Below 
   below-turn : {A B : Type 0} (s : State) (k l : A → State → Out B) → ((a : A) (t : State) → Below n (k a t) (l a t)) →
       (x : A ⊎ B) (t : State) → Below n (turn I s k x t) (turn J s l x t)
   unfolding turn left
-  below-turn s k l h (inl a) t = below-guard n (ltb (left I t) (left I s)) 0 0 _ _ (h a t)
+  below-turn s k l h (inl a) t = below-choose n (ltb (left I t) (left I s)) _ _ _ _ (h a t) (inr refl)
   below-turn s k l h (inr b) t = inr refl
 
   below-turns : {A B : Type 0} (k : ℕ) (f g : A → State → Out (A ⊎ B)) → ((a : A) (s : State) → Below n (f a s) (g a s)) →
@@ -91,8 +89,9 @@ module _ (n : ℕ) (ks ls : List ℕ) (c d : ℕ) (leaf : (s : State) → Below 
   below-eval e e′ h m here s = inr refl
   below-eval e e′ h m flush s = below-leaves _ s
   below-eval e e′ h m bump s = below-leaves _ s
-  below-eval e e′ h m (scope p) s = below-then n (flushAt I s) (flushAt J s) _ _ (below-leaves _ s) (λ u t. below-eval e e′ h (length (t .out)) p t)
-  below-eval e e′ h m (close k) s = node m k s
+  below-eval e e′ h m (scope f) s =
+      below-then n (flushAt I s) (flushAt J s) _ _ (below-leaves _ s) (λ u t. below-eval e e′ h (length (t .out)) (f (mark (length (t .out)))) t)
+  below-eval e e′ h m (close c k) s = below-choose n (eqb (c .row) m) _ _ _ _ (node m k s) (inr refl)
   below-eval e e′ h m (stop k pl) s = inr refl
   below-eval e e′ h m (enter r) s = h r s
   below-eval e e′ h m (test b p q) s = below-choose n b _ _ _ _ (below-eval e e′ h m p s) (below-eval e e′ h m q s)

@@ -5,9 +5,8 @@ use mathlib.Core.Path.{_≡_, refl, subst, sym, _∙_}
 use mathlib.Core.Bool.{Bool, true, false}
 use native.Mathlib.Omega.{arith}
 use lib.ListN.{length, drop}
-use lib.Dec.{ltb}
 use borrow.Author.Tests.{lt-ltb}
-use Rattle.definition.specs.Tape.{In, State, Out, ok, refused, andThen, choose, guard, room, hereAt, wroteLeaf, leafAt, leavesAt, flushAt, bumpAt, triv}
+use Rattle.definition.specs.Tape.{In, State, Out, ok, refused, fault, andThen, choose, guard, room, hereAt, wroteLeaf, leafAt, leavesAt, flushAt, bumpAt, triv}
 use Rattle.laws.specs.Kept.{After}
 use Rattle.laws.specs.Unroll.{then-cong, then-assoc}
 use Rattle.laws.specs.Looking.{skipped, skipped-le}
@@ -23,6 +22,7 @@ leaf-by i n s true h = further (leavesAt i n (wroteLeaf i s)) h
     further : (o : Out (Unit {0})) → After (By n) (wroteLeaf i s) o → After (By (suc n)) s o
     further (ok a t) e = omega arith
     further (refused k pl) e = tt
+    further (fault w) e = tt
 leaf-by i n s false h = tt
 
 leaves-by : (i : In) (n : ℕ) (s : State) → s .at + n ≤ length (i .kinds) → After (By n) s (leavesAt i n s)
@@ -52,4 +52,5 @@ leaves-last i zero s = only (leafAt i s)
     only : (o : Out (Unit {0})) → andThen o (λ u t. ok tt t) ≡ o
     only (ok a t) = refl
     only (refused n pl) = refl
+    only (fault w) = refl
 leaves-last i (suc n) s = then-cong (leafAt i s) _ _ (λ u t. leaves-last i n t) ∙ sym (then-assoc (leafAt i s) (λ u t. leavesAt i n t) (λ u t. leafAt i t))

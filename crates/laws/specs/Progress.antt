@@ -12,12 +12,13 @@ use native.Mathlib.Decide.{decLt}
 use lib.ListN.{length}
 use lib.Dec.{ltb, eqb}
 use borrow.Author.Tests.{ltb-true, eqb-true, eqb-false, ne-eqb, le-ltb}
-use Rattle.definition.specs.Kinds.{Eof, K-semi}
-use Rattle.definition.specs.Tape.{In, State, Out, ok, refused, andThen, choose, guard, hereAt, nthAt, gluedAt, flushAt, bumpAt, closeAt}
-use Rattle.definition.specs.Prog.{Prog, done, seq, nth, glued, here, flush, bump, scope, close, stop, enter, test, repeat, Rule, left, turn, eval, call}
+use Rattle.definition.specs.Kinds.{Eof, K-underscore, K-paren, K-bracket, K-#, K-brace}
+use Rattle.definition.specs.Tape.{In, State, Out, ok, refused, fault, never-ends, andThen, choose, hereAt, nthAt, gluedAt, flushAt, bumpAt}
+use Rattle.definition.specs.Prog.{Prog, Mark, mark, done, seq, nth, glued, here, flush, bump, scope, close, stop, enter, test, repeat, Rule, left, turn, eval, call}
+use Rattle.definition.specs.Modes.{Brace, Range, Binary, ExprCx, ErrorCx, recovers}
 use Rattle.definition.specs.Operators.{Op, from-slice, isNone, isBelow, isTighter, bindings, bindingIn}
-use Rattle.definition.specs.Classes.{among, glues, allows, linked, isObjectKey, isLit, isPathComponent, isStmtRecovering, isPat, isUnary, isUsePath, isPatOrRest, isSelectArm}
-use Rattle.definition.specs.Grammar.{grammar, ErrorCx, bump-if, bump-while, push, while-turn, stmt, item-use, pat, path, outer-expr-with, expr-binary, inner-attribute, inner-attributes, attribute, attributes, label, labels, generic-path, generics, path-segment, path-body, path-segments, modifier-pub, modifiers, parenthesized, pat-or-rest, pat-item, pat-parens, pat-object-key, pat-negative, pat-path, pat-group, pat-anonymous, pat-kind, pat-body, field, use-item, use-path, use-group, item-use-body, variant-item, variant, expr-with, expr, block-open, block-with, else-branch, expr-if, expr-while, expr-loop, expr-for, match-case, match-arm, expr-match, select-pat, select-case, select-arm, expr-select, empty-group, expr-tuple-or-group, object-field, recover, primary-path, closure-arguments, range-to, range-to-inclusive, anonymous-object, primary-last, primary-block, primary-give, primary-jump, primary-word, primary-unary, primary-prefix, primary-group, primary-kind, expr-primary, field-link, chain-link, chain-step, advance, nest, operator, binary-turn, binary-body, outer-body, impl-path, stmt-outer, stmt-body, separated}
+use Rattle.definition.specs.Classes.{among, glues, rangedBy, linked, isObjectKey, isLit, isPathComponent, isStmtRecovering, isPat, isUnary, isUsePath, isPatOrRest, isSelectArm}
+use Rattle.definition.specs.Grammar.{grammar, bump-if, push, while-turn, stmt, item-use, pat, path, outer-expr-with, expr-binary, inner-attribute, attribute, attributes, label, labels, generic-path, generics, path-segment, path-text, path-segments, modifier-pub, modifiers, parenthesized, pat-or-rest, pat-item, pat-parens, pat-object-key, pat-negative, pat-path, pat-group, pat-anonymous, pat-kind, pat-text, field, use-item, use-path, use-group, item-use-text, variant-item, variant, expr-with, expr, block-open, block-with, else-branch, expr-if, expr-while, expr-loop, expr-for, match-case, match-arm, expr-match, select-pat, select-case, select-arm, expr-select, empty-group, expr-tuple-or-group, object-field, recover, primary-path, closure-arguments, range-to, expr-primary, field-link, chain-link, chain-step, advance, nest, operator, binary-turn, expr-binary-text, outer-expr-with-text, impl-path, stmt-text, stmt-once, separated}
 use Rattle.definition.specs.Parse.{run}
 use Rattle.laws.specs.Kept.{After}
 use Rattle.laws.specs.Unroll.{unroll}
@@ -49,8 +50,8 @@ Stays i s C glued K = K (gluedAt i s)
 Stays i s C here K = K (hereAt i s)
 Stays i s C flush K = K tt
 Stays i s C bump K = nthAt i 0 s ≡ Eof → K tt
-Stays i s C (scope p) K = Stays i s C p K
-Stays i s C (close k) K = K tt
+Stays i s C (scope f) K = (c : Mark) → Stays i s C (f c) K
+Stays i s C (close c k) K = K tt
 Stays i s C (stop n pl) K = Unit {0}
 Stays i s C (enter r) K = C r K
 Stays i s C (test b p q) K = (b ≡ true → Stays i s C p K) × (b ≡ false → Stays i s C q K)
@@ -73,15 +74,18 @@ Deep i s = Deeper i s (Deeper i s Any)
 abbrev pub Ends : {A : Type 0} → State → (A → Type 0) → Out A → Type 0
 Ends s K (ok a t) = (s .at < t .at) ⊎ ((t .at ≡ s .at) × K a)
 Ends s K (refused n pl) = Unit {0}
+Ends s K (fault w) = Unit {0}
 
 -- places do not shrink
 abbrev On : {A : Type 0} → State → Out A → Type 0
 On s (ok a t) = s .at ≤ t .at
 On s (refused n pl) = Unit {0}
+On s (fault w) = Unit {0}
 
 on-went : {A : Type 0} (m : ℕ) (s : State) (o : Out A) → After (Went m) s o → On s o
 on-went m s (ok a t) h = h .grows .at
 on-went m s (refused n pl) h = tt
+on-went m s (fault w) h = tt
 
 -- a step of which only that is known
 ends-any : {A : Type 0} (s t : State) (K : A → Type 0) (o : Out A) → t .at ≡ s .at → On t o → ((a : A) → K a) → Ends s K o
@@ -91,6 +95,7 @@ ends-any {A} s t K (ok a u) e h k = go (decLt (s .at) (u .at))
     go (yes p) = inl p
     go (no p) = inr (omega arith, k a)
 ends-any s t K (refused n pl) e h k = tt
+ends-any s t K (fault w) e h k = tt
 
 ends-then : {A B : Type 0} (s : State) (J : A → Type 0) (K : B → Type 0) (o : Out A) (f : A → State → Out B) → Ends s J o →
     ((a : A) (t : State) → On t (f a t)) → ((a : A) (t : State) → t .at ≡ s .at → J a → Ends s K (f a t)) → Ends s K (andThen o f)
@@ -100,8 +105,10 @@ ends-then {B = B} s J K (ok a t) f (inl h) g k = go (f a t) (g a t)
     go : (o : Out B) → On t o → Ends s K o
     go (ok b u) l = inl (omega arith)
     go (refused n pl) l = tt
+    go (fault w) l = tt
 ends-then s J K (ok a t) f (inr h) g k = k a t (h .0) (h .1)
 ends-then s J K (refused n pl) f h g k = tt
+ends-then s J K (fault w) f h g k = tt
 
 ends-test : {A : Type 0} (s : State) (K : A → Type 0) (b : Bool) (k l : Unit {0} → Out A) →
     (b ≡ true → Ends s K (k tt)) → (b ≡ false → Ends s K (l tt)) → Ends s K (choose b k l)
@@ -120,6 +127,7 @@ ends-bump i s t K (ok u v) q e h k = go (eqb (nthAt i 0 s) Eof) refl
         let l = seen (i .kinds) (t .at) (λ x. eqb-false (nthAt i 0 s) Eof z (rw (sym e) x)) in
         inl (omega (arith, bump-end i t v u l q, skipped-ge (i .kinds) (t .at)))
 ends-bump i s t K (refused n pl) q e h k = tt
+ends-bump i s t K (fault w) q e h k = tt
 
 module _ (i : In) (d : ℕ) where
   on-run : {A : Type 0} (m : ℕ) (p : Prog A) (s : State) → On s (eval i (call grammar i d) m p s)
@@ -127,17 +135,17 @@ module _ (i : In) (d : ℕ) where
 
   on-turn : {A B : Type 0} (m : ℕ) (f : A → Prog (A ⊎ B)) (s : State) (x : A ⊎ B) (t : State) →
       On t (turn i s (λ b u. eval i (call grammar i d) m (repeat f b) u) x t)
-  unfolding turn guard
+  unfolding turn choose
   on-turn {B = B} m f s (inl a) t = go (ltb (left i t) (left i s))
     where
-      go : (b : Bool) → On t (guard {A = B} b 0 0 (λ u. eval i (call grammar i d) m (repeat f a) t))
+      go : (b : Bool) → On t (choose {A = B} b (λ u. eval i (call grammar i d) m (repeat f a) t) (λ u. fault never-ends))
       go true = on-run m (repeat f a) t
       go false = tt
   on-turn m f s (inr b) t = omega arith
 
   ends-turn : {A B : Type 0} (s t : State) (K : B → Type 0) (k : A → State → Out B) → t .at ≡ s .at →
       (x : A ⊎ B) (u : State) → u .at ≡ s .at → Again K x → Ends s K (turn i t k x u)
-  unfolding turn guard left
+  unfolding turn choose left
   ends-turn s t K k e (inl a) u g h = rw (le-ltb (left i u) (left i t) (omega arith)) tt
   ends-turn s t K k e (inr b) u g h = inr (g, h)
 
@@ -157,10 +165,12 @@ module _ (i : In) (d : ℕ) where
   ends s C h m here K t e x = inr (e, rw e x)
   ends s C h m flush K t e x = ends-any s t K (flushAt i t) e (on-run m flush t) (λ u. x)
   ends s C h m bump K t e x = ends-bump i s t K (bumpAt i t) refl e (on-run m bump t) x
-  ends s C h m (scope p) K t e x =
-      ends-then s (λ u. Stays i s C p K) K (flushAt i t) _ (ends-any s t (λ u. Stays i s C p K) (flushAt i t) e (on-run m flush t) (λ u. x))
-      (λ a u. on-run (length (u .out)) p u) (λ a u g y. ends s C h (length (u .out)) p K u g y)
-  ends s C h m (close k) K t e x = ends-any s t K (closeAt i m k t) e (on-run m (close k) t) (λ u. x)
+  ends s C h m (scope f) K t e x =
+      let J : Unit {0} → Type 0 = λ u. (c : Mark) → Stays i s C (f c) K in
+      ends-then s J K (flushAt i t) _ (ends-any s t J (flushAt i t) e (on-run m flush t) (λ u. x))
+      (λ a u. on-run (length (u .out)) (f (mark (length (u .out)))) u)
+      (λ a u g y. ends s C h (length (u .out)) (f (mark (length (u .out)))) K u g (y (mark (length (u .out)))))
+  ends s C h m (close c k) K t e x = ends-any s t K (choose (eqb (c .row) m) _ _) e (on-run m (close c k) t) (λ u. x)
   ends s C h m (stop n pl) K t e x = tt
   ends s C h m (enter r) K t e x = h r K t e x
   ends s C h m (test b p q) K t e x = ends-test s K b _ _ (λ z. ends s C h m p K t e (x .0 z)) (λ z. ends s C h m q K t e (x .1 z))
@@ -189,6 +199,7 @@ unfolding Further
 ends-further s (ok a t) (inl h) = h
 ends-further s (ok a t) (inr h) = absurd (h .1)
 ends-further s (refused n pl) h = tt
+ends-further s (fault w) h = tt
 
 -- a program that cannot stay
 pub further : {A : Type 0} (i : In) (d m : ℕ) (p : Prog A) (s : State) → Stays i s (Deep i s) p (λ a. ⊥) → After Further s (run i d m p s)
@@ -205,6 +216,7 @@ module _ {A B : Type 0} (i : In) (d m : ℕ) (p : Prog A) (f : A → Prog B) (s 
       go : (o : Out A) → After Further s o → Ends s (λ a. ⊥) o
       go (ok a t) l = inl l
       go (refused n pl) l = tt
+      go (fault w) l = tt
 
   pub later-further : (a : A) (t : State) → run i d m p s ≡ ok a t → After Further t (run i d m (f a) t) → After Further s (run i d m (seq p f) s)
   unfolding run eval andThen Further
@@ -213,6 +225,7 @@ module _ {A B : Type 0} (i : In) (d m : ℕ) (p : Prog A) (f : A → Prog B) (s 
       go : (o : Out B) → s .at ≤ t .at → After Further t o → After Further s o
       go (ok b u) l k = omega arith
       go (refused n pl) l k = tt
+      go (fault w) l k = tt
 
 -- ## Where nothing is to be shown
 
@@ -230,8 +243,8 @@ module _ (i : In) (s : State) where
   anyway C c here K k = k _
   anyway C c flush K k = k tt
   anyway C c bump K k = λ z. k tt
-  anyway C c (scope p) K k = anyway C c p K k
-  anyway C c (close n) K k = k tt
+  anyway C c (scope f) K k = λ m. anyway C c (f m) K k
+  anyway C c (close m n) K k = k tt
   anyway C c (stop n pl) K k = tt
   anyway C c (enter r) K k = c r K k
   anyway C c (test b p q) K k = (λ z. anyway C c p K k, λ z. anyway C c q K k)
@@ -288,11 +301,11 @@ module _ (i : In) (d m : ℕ) (s : State) (some : nthAt i 0 s ≡ Eof → ⊥) w
 
   pub inner-attribute-further : After Further s (run i d m inner-attribute s)
   unfolding Stays inner-attribute
-  inner-attribute-further = further i d m inner-attribute s (λ z. absurd (some z))
+  inner-attribute-further = further i d m inner-attribute s (λ c z. absurd (some z))
 
   pub attribute-further : After Further s (run i d m attribute s)
   unfolding Stays attribute
-  attribute-further = further i d m attribute s (λ z. absurd (some z))
+  attribute-further = further i d m attribute s (λ c z. absurd (some z))
 
   pub label-further : After Further s (run i d m label s)
   unfolding Stays label
@@ -300,7 +313,7 @@ module _ (i : In) (d m : ℕ) (s : State) (some : nthAt i 0 s ≡ Eof → ⊥) w
 
   pub generics-further : After Further s (run i d m generics s)
   unfolding Stays generics
-  generics-further = further i d m generics s (λ z. absurd (some z))
+  generics-further = further i d m generics s (λ c z. absurd (some z))
 
   pub path-segment-further : After Further s (run i d m path-segment s)
   unfolding Stays path-segment
@@ -316,35 +329,35 @@ module _ (i : In) (d m : ℕ) (s : State) (some : nthAt i 0 s ≡ Eof → ⊥) w
 
   pub field-further : After Further s (run i d m field s)
   unfolding Stays field push
-  field-further = further i d m field s (λ z. absurd (some z))
+  field-further = further i d m field s (λ c z. absurd (some z))
 
   pub item-use-further : After Further s (run i d m item-use s)
-  unfolding Stays Deeper item-use grammar item-use-body
+  unfolding Stays Deeper item-use grammar item-use-text
   item-use-further = further i d m item-use s (λ z. absurd (some z))
 
   pub use-item-further : After Further s (run i d m use-item s)
-  unfolding Stays Deeper use-item item-use grammar item-use-body
-  use-item-further = further i d m use-item s (λ z. absurd (some z))
+  unfolding Stays Deeper use-item item-use grammar item-use-text
+  use-item-further = further i d m use-item s (λ c z. absurd (some z))
 
   pub use-path-further : After Further s (run i d m use-path s)
-  unfolding Stays Deeper use-path use-item item-use grammar item-use-body
-  use-path-further = further i d m use-path s (λ z. absurd (some z))
+  unfolding Stays Deeper use-path use-item item-use grammar item-use-text
+  use-path-further = further i d m use-path s (λ c z. absurd (some z))
 
   pub use-group-further : After Further s (run i d m use-group s)
   unfolding Stays use-group
-  use-group-further = further i d m use-group s (λ z. absurd (some z))
+  use-group-further = further i d m use-group s (λ c z. absurd (some z))
 
   pub variant-item-further : After Further s (run i d m variant-item s)
   unfolding Stays variant-item
-  variant-item-further = further i d m variant-item s (λ z. absurd (some z))
+  variant-item-further = further i d m variant-item s (λ c z. absurd (some z))
 
   pub variant-further : After Further s (run i d m variant s)
   unfolding Stays variant variant-item
-  variant-further = further i d m variant s (λ z. absurd (some z))
+  variant-further = further i d m variant s (λ c z. absurd (some z))
 
   pub else-branch-further : After Further s (run i d m else-branch s)
   unfolding Stays else-branch
-  else-branch-further = further i d m else-branch s (λ z. absurd (some z))
+  else-branch-further = further i d m else-branch s (λ c z. absurd (some z))
 
   pub object-field-further : After Further s (run i d m object-field s)
   unfolding Stays object-field
@@ -352,7 +365,7 @@ module _ (i : In) (d m : ℕ) (s : State) (some : nthAt i 0 s ≡ Eof → ⊥) w
 
   pub operator-further : (op : Op) → After Further s (run i d m (operator op) s)
   unfolding Stays operator advance
-  operator-further op = further i d m (operator op) s (λ e z. absurd (some z), λ e z. absurd (some z))
+  operator-further op = further i d m (operator op) s (λ c. (λ e z. absurd (some z), λ e z. absurd (some z)))
 
 -- ## Rules that begin with a token that is looked at
 
@@ -370,36 +383,40 @@ way h g = (h, g)
 token : {P Q : Type 0} {b : Bool} {k : ℕ} → (b ≡ true → k ≡ Eof → ⊥) → (b ≡ false → Q) → (b ≡ true → k ≡ Eof → P) × (b ≡ false → Q)
 token h g = (λ y z. absurd (h y z), g)
 
+-- the same where the token is taken behind a checkpoint
+marked : {P : Mark → Type 0} {Q : Type 0} {b : Bool} {k : ℕ} → (b ≡ true → k ≡ Eof → ⊥) → (b ≡ false → Q) → (b ≡ true → (c : Mark) → k ≡ Eof → P c) × (b ≡ false → Q)
+marked h g = (λ y c z. absurd (h y z), g)
+
 among-next : (k x : ℕ) (l : List ℕ) → eqb k x ≡ false → among k (x ∷ l) ≡ among k l
 unfolding among
 among-next k x l e = rw (e, among)
 
 module _ (i : In) (s : State) where
   path-stays : (C : Entered) (K : Unit {0} → Type 0) → isPathComponent (nthAt i 0 s) ≡ true → Stays i s (Deeper i s C) path K
-  unfolding Stays Deeper grammar path path-body path-segments while-turn path-segment isPathComponent among
-  path-stays C K h = (λ y z. absurd (against y (rw z)), λ n. absurd (against h n))
+  unfolding Stays Deeper grammar path path-text path-segments while-turn path-segment isPathComponent among
+  path-stays C K h = λ c. (λ y z. absurd (against y (rw z)), λ n. absurd (against h n))
 
   -- `#[`, which begins an attribute, comes further; else what follows is looked at with the same kinds seen
   attributes-stays : (C : Entered) (K : Unit {0} → Type 0) → K tt → Stays i s C attributes K
   unfolding Stays attributes attribute while-turn glues
-  attributes-stays C K k = (λ y z. absurd (against y (rw z)), λ n. k)
+  attributes-stays C K k = (λ y c z. absurd (against y (rw z)), λ n. k)
 
   pat-kind-stays : (C : Entered) (K : Unit {0} → Type 0) → isPat (nthAt i 0 s) (gluedAt i s) ≡ true →
       Stays i s (Deeper i s C) (pat-kind (nthAt i 0 s) (gluedAt i s)) K
   unfolding Stays pat-kind push pat-negative pat-path pat-group pat-parens pat-anonymous isPat isPathComponent isLit glues among
   pat-kind-stays C K h =
-      token (λ y z. against y (rw z)) (λ n1.
-      token (λ y z. against y (rw z)) (λ n2.
-      token (λ y z. against y (rw z)) (λ n3.
-      way (λ y. path-stays C _ y) (λ n4.
-      token (λ y z. against y (rw z)) (λ n5.
-      token (λ y z. against y (rw z)) (λ n6.
-      token (λ y z. against y (rw z)) (λ n7.
-      absurd (against h (rw (n4, n1, among-next, among-next, among-next, n2, n7))))))))))
+      marked (λ y z. against y (rw z)) (λ n1.
+      marked (λ y z. against y (rw z)) (λ n2.
+      marked (λ y z. against y (rw z)) (λ n3.
+      way (λ y c. path-stays C _ y) (λ n4.
+      marked {b = eqb (nthAt i 0 s) K-bracket} (λ y z. against y (rw z)) (λ n5.
+      marked {b = eqb (nthAt i 0 s) K-paren} (λ y z. against y (rw z)) (λ n6.
+      marked {b = glues K-# K-brace (nthAt i 0 s) (gluedAt i s)} (λ y z. against y (rw z)) (λ n7.
+      absurd (against h (rw (n4, n1, among-next _ K-underscore _ n3, among-next _ K-paren _ n6, among-next _ K-bracket _ n5, n2, n7))))))))))
 
   pat-stays : (K : Unit {0} → Type 0) → isPat (nthAt i 0 s) (gluedAt i s) ≡ true → Stays i s (Deep i s) pat K
-  unfolding Stays Deeper grammar pat pat-body
-  pat-stays K h = attributes-stays _ _ (pat-kind-stays Any _ h)
+  unfolding Stays Deeper grammar pat pat-text
+  pat-stays K h = λ c. attributes-stays _ _ (pat-kind-stays Any _ h)
 
   -- one token, or a pattern
   pat-or-rest-stays : (K : Unit {0} → Type 0) → isPatOrRest (nthAt i 0 s) (gluedAt i s) ≡ true → Stays i s (Deep i s) pat-or-rest K
@@ -432,11 +449,11 @@ module _ (i : In) (d m : ℕ) (s : State) (h : isPat (nthAt i 0 s) (gluedAt i s)
 
   pub match-case-further : After Further s (run i d m match-case s)
   unfolding Stays match-case
-  match-case-further = further i d m match-case s (pat-stays i s _ h)
+  match-case-further = further i d m match-case s (λ c. pat-stays i s _ h)
 
   pub match-arm-further : After Further s (run i d m match-arm s)
   unfolding Stays match-arm match-case
-  match-arm-further = further i d m match-arm s (pat-stays i s _ h)
+  match-arm-further = further i d m match-arm s (λ c. pat-stays i s _ h)
 
 module _ (i : In) (d m : ℕ) (s : State) (h : isPatOrRest (nthAt i 0 s) (gluedAt i s) ≡ true) where
   pub pat-or-rest-further : After Further s (run i d m pat-or-rest s)
@@ -449,52 +466,18 @@ module _ (i : In) (d m : ℕ) (s : State) (h : isPatOrRest (nthAt i 0 s) (gluedA
 module _ (i : In) (d m : ℕ) (s : State) (h : isSelectArm (nthAt i 0 s) (gluedAt i s) ≡ true) where
   pub select-case-further : After Further s (run i d m select-case s)
   unfolding Stays select-case
-  select-case-further = further i d m select-case s (select-pat-stays i s _ h)
+  select-case-further = further i d m select-case s (λ c. select-pat-stays i s _ h)
 
   pub select-arm-further : After Further s (run i d m select-arm s)
   unfolding Stays select-arm select-case
-  select-arm-further = further i d m select-arm s (select-pat-stays i s _ h)
+  select-arm-further = further i d m select-arm s (λ c. select-pat-stays i s _ h)
 
 -- ## Expressions: a token is taken, or it is refusal 6 (but not where a statement recovers)
 
-module _ (i : In) (s : State) (C : Entered) (K : ℕ → Type 0) (brace range : Bool) where
-  last-stays : Stays i s C (primary-last brace range ErrorCx (nthAt i 0 s) (gluedAt i s)) K
-  unfolding Stays primary-last range-to range-to-inclusive anonymous-object push recover allows glues
-  last-stays =
-      token (λ y z. against y (rw z)) (λ n1.
-      token (λ y z. against y (rw z)) (λ n2.
-      token (λ y z. against y (rw z)) (λ n3.
-      (λ y. absurd (false≢true y), λ n. tt))))
-
-  word-stays : Stays i s C (primary-word brace range ErrorCx (nthAt i 0 s) (gluedAt i s)) K
-  unfolding Stays primary-word primary-jump primary-give primary-block expr-if expr-while expr-loop expr-for expr-select expr-match
-  word-stays =
-      token (λ y z. against y (rw z)) (λ n1.
-      token (λ y z. against y (rw z)) (λ n2.
-      token (λ y z. against y (rw z)) (λ n3.
-      token (λ y z. against y (rw z)) (λ n4.
-      token (λ y z. against y (rw z)) (λ n5.
-      token (λ y z. against y (rw z)) (λ n6.
-      token (λ y z. against y (rw z)) (λ n7.
-      token (λ y z. against y (rw z)) (λ n8.
-      token (λ y z. against y (rw z)) (λ n9.
-      token (λ y z. against y (rw z)) (λ n10.
-      last-stays))))))))))
-
-  prefix-stays : Stays i s C (primary-prefix brace range ErrorCx (nthAt i 0 s) (gluedAt i s)) K
-  unfolding Stays primary-prefix primary-unary closure-arguments parenthesized push isUnary glues among
-  prefix-stays =
-      token (λ y z. against y (rw z)) (λ n1.
-      token (λ y z. against y (rw z)) (λ n2.
-      token (λ y z. against y (rw z)) (λ n3.
-      token (λ y z. against y (rw z)) (λ n4.
-      word-stays))))
-
 module _ (i : In) (s : State) where
-  kind-stays : (C : Entered) (K : ℕ → Type 0) (brace range : Bool) →
-      Stays i s (Deeper i s C) (primary-kind brace range ErrorCx (nthAt i 0 s) (gluedAt i s)) K
-  unfolding Stays primary-kind primary-group primary-path empty-group expr-tuple-or-group parenthesized block-with block-open bump-if isLit among
-  kind-stays C K brace range =
+  primary-stays : (C : Entered) (K : ℕ → Type 0) (brace : Brace) (range : Range) → Stays i s (Deeper i s C) (expr-primary brace range ErrorCx) K
+  unfolding Stays expr-primary primary-path empty-group expr-tuple-or-group parenthesized block-with block-open bump-if push closure-arguments expr-if expr-while expr-loop expr-for expr-select expr-match range-to recover recovers rangedBy isLit isUnary glues among
+  primary-stays C K brace range = λ c.
       token (λ y z. against y (rw z)) (λ n1.
       way (λ y. path-stays i s C _ y) (λ n2.
       token (λ y z. against y (rw z)) (λ n3.
@@ -502,43 +485,58 @@ module _ (i : In) (s : State) where
       token (λ y z. against y (rw z)) (λ n5.
       way (λ y. (λ x z. absurd (against y (rw z)), λ n. absurd (against y n))) (λ n6.
       token (λ y z. against y (rw z)) (λ n7.
-      prefix-stays i s (Deeper i s C) K brace range)))))))
+      marked (λ y z. against y (rw z)) (λ n8.
+      marked (λ y z. against y (rw z)) (λ n9.
+      token (λ y z. against y (rw z)) (λ n10.
+      token (λ y z. against y (rw z)) (λ n11.
+      token (λ y z. against y (rw z)) (λ n12.
+      token (λ y z. against y (rw z)) (λ n13.
+      token (λ y z. against y (rw z)) (λ n14.
+      token (λ y z. against y (rw z)) (λ n15.
+      token (λ y z. against y (rw z)) (λ n16.
+      token (λ y z. against y (rw z)) (λ n17.
+      token (λ y z. against y (rw z)) (λ n18.
+      token (λ y z. against y (rw z)) (λ n19.
+      token (λ y z. against y (rw z)) (λ n20.
+      token (λ y z. against y (rw z)) (λ n21.
+      token (λ y z. against y (rw z)) (λ n22.
+      token (λ y z. against y (rw z)) (λ n23.
+      marked (λ y z. against y (rw z)) (λ n24.
+      (λ y. absurd (false≢true y), λ n. tt)))))))))))))))))))))))))
 
-  outer-stays : (K : ℕ → Type 0) (brace range binary : Bool) → Stays i s (Deep i s) (outer-expr-with brace range binary ErrorCx) K
-  unfolding Stays Deeper grammar outer-expr-with outer-body expr-primary
-  outer-stays K brace range binary = kind-stays Any _ brace range
+  outer-stays : (K : ℕ → Type 0) (brace : Brace) (range : Range) (binary : Binary) → Stays i s (Deep i s) (outer-expr-with brace range binary ErrorCx) K
+  unfolding Stays Deeper grammar outer-expr-with outer-expr-with-text
+  outer-stays K brace range binary = λ c. primary-stays Any _ brace range
 
-  expr-stays : (K : Unit {0} → Type 0) (brace range binary : Bool) → Stays i s (Deep i s) (expr-with brace range binary ErrorCx) K
+  expr-stays : (K : Unit {0} → Type 0) (brace : Brace) (range : Range) (binary : Binary) → Stays i s (Deep i s) (expr-with brace range binary ErrorCx) K
   unfolding Stays expr-with
-  expr-stays K brace range binary =
+  expr-stays K brace range binary = λ m.
       anyway i s _ (free-deep i s) attributes _ (λ a. anyway i s _ (free-deep i s) modifiers _ (λ b. anyway i s _ (free-deep i s) labels _ (λ c.
       outer-stays _ brace range binary)))
 
 module _ (i : In) (d m : ℕ) (s : State) where
-  pub outer-expr-with-further : (brace range binary : Bool) → After Further s (run i d m (outer-expr-with brace range binary ErrorCx) s)
+  pub outer-expr-with-further : (brace : Brace) (range : Range) (binary : Binary) → After Further s (run i d m (outer-expr-with brace range binary ErrorCx) s)
   outer-expr-with-further brace range binary = further i d m (outer-expr-with brace range binary ErrorCx) s (outer-stays i s _ brace range binary)
 
-  pub expr-with-further : (brace range binary : Bool) → After Further s (run i d m (expr-with brace range binary ErrorCx) s)
+  pub expr-with-further : (brace : Brace) (range : Range) (binary : Binary) → After Further s (run i d m (expr-with brace range binary ErrorCx) s)
   expr-with-further brace range binary = further i d m (expr-with brace range binary ErrorCx) s (expr-stays i s _ brace range binary)
 
   pub expr-further : After Further s (run i d m expr s)
-  expr-further = expr-with-further true true true
+  expr-further = expr-with-further Brace.Yes Range.Yes Binary.Yes
 
   pub separated-further : (separator : ℕ) → After Further s (run i d m (separated separator) s)
   unfolding Stays separated
-  separated-further separator = further i d m (separated separator) s (expr-stays i s _ true true true)
+  separated-further separator = further i d m (separated separator) s (expr-stays i s _ Brace.Yes Range.Yes Binary.Yes)
 
   pub empty-group-further : After Further s (run i d m empty-group s)
   unfolding Stays empty-group
-  empty-group-further = further i d m empty-group s (λ z. expr-stays i s _ true true true)
+  empty-group-further = further i d m empty-group s (λ z. expr-stays i s _ Brace.Yes Range.Yes Binary.Yes)
 
   -- a statement that stays is refused with 9
   pub stmt-further : After Further s (run i d m stmt s)
-  unfolding Stays Deeper grammar stmt stmt-body
+  unfolding Stays Deeper grammar stmt stmt-once
   stmt-further =
-      further i d m stmt s
-      (anyway i s _ (free-one i s) inner-attributes _ (λ a. anyway i s _ (free-one i s) stmt-outer _ (λ b. anyway i s _ (free-one i s) (bump-while K-semi) _ (λ c.
-      (λ y. tt, λ n. absurd (eqb-false (hereAt i s) (hereAt i s) n refl))))))
+      further i d m stmt s (anyway i s _ (free-one i s) stmt-text _ (λ a. (λ y. tt, λ n. absurd (eqb-false (hereAt i s) (hereAt i s) n refl))))
 
 -- ## Links and operators
 
@@ -552,7 +550,7 @@ link-stays i kind s K none =
 
 step-stays : (i : In) (kind : ℕ) (s : State) → Stays i s (Deep i s) (chain-step kind) (λ b. eqb b 0 ≡ true)
 unfolding Stays chain-step
-step-stays i kind s = link-stays i kind s _ (λ y. refl, λ n. absurd (true≢false n))
+step-stays i kind s = λ c. link-stays i kind s _ (λ y. refl, λ n. absurd (true≢false n))
 
 -- a link that is one comes further
 pub chain-link-further : (i : In) (d m kind : ℕ) (s t : State) (a : ℕ) → run i d m (chain-link kind (nthAt i 0 s)) s ≡ ok a t → eqb a 0 ≡ false → Further s t
@@ -572,16 +570,16 @@ chain-step-further i d m kind s t a e h = go (subst (Ends s (λ b. eqb b 0 ≡ t
     go (inl l) = l
     go (inr k) = absurd (against (k .1) h)
 
-or-none : (a b : Bool) → (a || b) ≡ false → a ≡ false
-or-none true b h = h
-or-none false b h = refl
-
 -- an operator that binds tighter is one, and binds enough
-tighter-below : (op next : Op) → isTighter op next ≡ true → isBelow (op .binding + 1) next ≡ false
-unfolding isTighter isBelow isNone
-tighter-below op next h =
-    let l = ltb-true (op .binding) (next .binding) h in
-    rw (ne-eqb (next .binding) 0 (λ z. omega arith), le-ltb (next .binding) (op .binding + 1) (omega arith))
+tighter-some : (op ahead : Op) → isTighter op ahead ≡ true → isNone ahead ≡ false
+unfolding isTighter isNone
+tighter-some op ahead h = let l = ltb-true (op .binding) (ahead .binding) h in ne-eqb (ahead .binding) 0 (λ z. omega arith)
+
+tighter-below : (op ahead : Op) → isTighter op ahead ≡ true → isBelow (op .binding + 1) ahead ≡ false
+unfolding isTighter isBelow
+tighter-below op ahead h =
+    let l = ltb-true (op .binding) (ahead .binding) h in
+    le-ltb (ahead .binding) (op .binding + 1) (omega arith)
 
 -- an operator is a token
 module _ (i : In) (s : State) where
@@ -593,20 +591,28 @@ module _ (i : In) (s : State) where
   not-none h z = false≢true (sym h ∙ (rw z))
 
   -- (which `operator-further` asks for, where a turn goes on)
-  pub operator-some : (op : Op) (least : ℕ) → op ≡ operator-at → isBelow least op ≡ false → nthAt i 0 s ≡ Eof → ⊥
-  unfolding isBelow
-  operator-some op least e h = not-none (rw e at (or-none (isNone op) (ltb (op .binding) least) h))
+  pub operator-some : (op : Op) → op ≡ operator-at → isNone op ≡ false → nthAt i 0 s ≡ Eof → ⊥
+  operator-some op e h = not-none (rw e at h)
 
-  binary-stays : (K : Bool → Type 0) (op : Op) (least : ℕ) (brace cx : Bool) → op ≡ operator-at → isBelow least op ≡ false →
+  binary-stays : (K : Bool → Type 0) (op : Op) (least : ℕ) (brace : Brace) (cx : ExprCx) → op ≡ operator-at → isNone op ≡ false → isBelow least op ≡ false →
       Stays i s (Deep i s) (expr-binary op least brace cx) K
-  unfolding Stays Deeper grammar expr-binary binary-body binary-turn operator advance
-  binary-stays K op least brace cx e h =
-      (λ y. absurd (against y h), λ n. (λ y z. absurd (operator-some op least e h z), λ y z. absurd (operator-some op least e h z)))
+  unfolding Stays Deeper grammar expr-binary expr-binary-text binary-turn operator advance
+  binary-stays K op least brace cx e h g = (
+    λ y. absurd (against y h),
+    λ n. (
+      λ y. absurd (against y g),
+      λ k c.
+          (λ y z. absurd (operator-some op e h z), λ y z. absurd (operator-some op e h z)),
+    ),
+  )
 
-module _ (i : In) (d m : ℕ) (s : State) (op : Op) (brace cx : Bool) where
-  pub expr-binary-further : (least : ℕ) → op ≡ operator-at i s → isBelow least op ≡ false → After Further s (run i d m (expr-binary op least brace cx) s)
-  expr-binary-further least e h = further i d m (expr-binary op least brace cx) s (binary-stays i s _ op least brace cx e h)
+module _ (i : In) (d m : ℕ) (s : State) (op : Op) (brace : Brace) (cx : ExprCx) where
+  pub expr-binary-further : (least : ℕ) → op ≡ operator-at i s → isNone op ≡ false → isBelow least op ≡ false →
+      After Further s (run i d m (expr-binary op least brace cx) s)
+  expr-binary-further least e h g = further i d m (expr-binary op least brace cx) s (binary-stays i s _ op least brace cx e h g)
 
-  pub nest-further : (next : Op) → next ≡ operator-at i s → isTighter op next ≡ true → After Further s (run i d m (nest op next brace cx) s)
+  pub nest-further : (c : Mark) (ahead : Op) → ahead ≡ operator-at i s → isTighter op ahead ≡ true → After Further s (run i d m (nest c op ahead brace cx) s)
   unfolding Stays nest
-  nest-further next e h = further i d m (nest op next brace cx) s (binary-stays i s _ next (op .binding + 1) brace cx e (tighter-below op next h))
+  nest-further c ahead e h =
+      further i d m (nest c op ahead brace cx) s
+      (binary-stays i s _ ahead (op .binding + 1) brace cx e (tighter-some op ahead h) (tighter-below op ahead h))

@@ -2,16 +2,16 @@
 -- node over the rows since a mark starts and ends where its leaves do. Instances of `kept`.
 -- Assumes nothing.
 use Prim.Native.Nat.{ℕ, zero, suc, _+_, _≤_, _<_}
-use mathlib.Core.Path.{_≡_, refl, ap, subst, sym, _∙_}
+use mathlib.Core.Path.{_≡_, refl, subst, sym, _∙_}
 use mathlib.Core.Bool.{cond}
 use mathlib.Core.List.{List, [], _∷_, _++_, append-nil, append-assoc}
 use native.Mathlib.Omega.{arith}
-use native.Mathlib.Decide.{decLt, decLe}
+use native.Mathlib.Decide.{decLt}
 use native.Mathlib.Numerals.{add-one}
 use lib.ListN.{length, take, drop, getD, length-append, length-drop, drop-of-length-le}
 use lib.Seq.{drop-append-le, drop-append-seam, drop-length}
 use lib.Dec.{eqb, eqb·suc-zero}
-use Rattle.definition.specs.Tape.{In, Row, State, Out, ok, refused, wroteLeaf, leafAt, leavesAt, leavesLen, startOf, nodeOver, wroteNode}
+use Rattle.definition.specs.Tape.{In, Row, State, wroteLeaf, leafAt, leavesAt, leavesLen, startOf, nodeOver, wroteNode}
 use Rattle.definition.specs.Prog.{Prog, Rule, eval, call}
 use Rattle.laws.specs.Kept.{After, Kept, after-leaf, after-leaves, kept}
 

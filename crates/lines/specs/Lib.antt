@@ -1,4 +1,5 @@
 pub mod Line
+pub mod Examples
 pub mod LineKinds
 pub mod LineTable
 pub mod LineTree

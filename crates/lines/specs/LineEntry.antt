@@ -10,9 +10,10 @@ use lib.Dec.{eqb}
 use borrow.Author.Tests.{ne-eqb}
 use Rattle.definition.specs.Kinds.{K-#, K-bracket, K-label, K-pub, K-const, K-async, K-move, Root, Expr, ExprBinary}
 use Rattle.definition.specs.Classes.{isSome, treated, glues}
+use Rattle.definition.specs.Modes.{Brace, Range, Binary, ErrorCx, isRanged, isBinary}
 use Rattle.definition.specs.Tape.{gluedAt}
-use Rattle.definition.specs.Prog.{nth, enter, close, ret, _>>=_, _>>_, if_then_else_, Rule, outer-rule}
-use Rattle.definition.specs.Grammar.{grammar, exprs, expr, expr-with, attributes, modifiers, modifiers-turn, labels, while-turn, outer-expr-with, outer-rest, outer-op, outer-binary, finish, expr-binary, binary-body, expr-range, separated, bump-while, bump-while-turn}
+use Rattle.definition.specs.Prog.{mark, nth, enter, close, ret, _>>=_, _>>_, if_then_else_, Rule, outer-rule}
+use Rattle.definition.specs.Grammar.{grammar, exprs, expr, expr-with, attributes, modifiers, modifiers-turn, labels, while-turn, outer-expr-with, outer-binary, finish, expr-binary, expr-binary-text, expr-range, separated, bump-while, bump-while-turn}
 use Rattle.trees.specs.Forest.{Tok, Forest, none, node, _⊕_, size, leaves, st, leafs, size-app, leaves-app, leafs-size, leafs-leaves}
 use Rattle.lines.specs.Line.{Item, Line, Proper, ProperLine, restToks, spell, bind, Links, end, link, flatten}
 use Rattle.lines.specs.LineKinds.{every, operands, operand-every}
@@ -20,19 +21,19 @@ use Rattle.lines.specs.LineTree.{around, linksF, lineF}
 use Rattle.lines.specs.Grouping.{Verdict, fine, clash, judge, Shape, all-map}
 use Rattle.lines.specs.Writes.{Solid, Job, input, At, got, Runs, Enters, Sees, sees-end, sees-gap, at-on, at-leafs, at-as, seq-ok, seq-no, test-yes, test-no, done-ok, loop-end, loop-no, loop-more, enter-ok, call-ok, to, halt-to, scope-ok, scope-here, flush-here, close-ok, nth-ok, glued-ok}
 use Rattle.lines.specs.LineSizes.{operandG, groupF, group-is, wrap, group-leaves, operand-length, operand-size, around-size, group-size, group-around-size}
-use Rattle.lines.specs.LineRun.{operand-never, bind-pos, operand-solid, operand-sees, Comes, Stands, past-operand, nextOp, look-ok, kindOf, outer-ok}
+use Rattle.lines.specs.LineRun.{operand-never, bind-pos, operand-solid, operand-sees, Comes, Stands, past-operand, nextOp, look-ok, kindOf, outer-rest, outer-ok}
 use Rattle.lines.specs.LineSim.{result, judged, anyOf, Ready, sim}
 
 -- ## outer_expr_with
 
 -- the loop, entered after the first operand with the least binding 0
 abbrev Entered : Job → ℕ → ℕ → Links → Forest → Verdict → Type 0
-Entered c d m t f u = Runs c d m (expr-binary (nextOp (flatten t)) 0 true false) f (judged f u (got (anyOf t false) (f ⊕ linksF t)))
+Entered c d m t f u = Runs c d m (expr-binary (nextOp (flatten t)) 0 Brace.Yes ErrorCx) f (judged f u (got (anyOf t false) (f ⊕ linksF t)))
 
 first-loop : {c : Job} {d m : ℕ} {f : Forest} (t : Links) → Shape t → Comes c f (flatten t) → 12 ≤ d → size f + size (linksF t) ≤ c .most →
     Entered c (suc d) m t f (judge t)
-unfolding expr-binary grammar binary-body
-first-loop {c} {d} {m} {f} t s k h r = go t (judge t) (rw (append-nil (flatten t)) at (sim true false t c false d (size f) 0 1 f [] ready))
+unfolding expr-binary grammar expr-binary-text
+first-loop {c} {d} {m} {f} t s k h r = go t (judge t) (rw (append-nil (flatten t)) at (sim Brace.Yes ErrorCx t c false d (size f) 0 1 f [] ready))
   where
     ready : Ready c d 0 1 f t []
     ready =
@@ -47,7 +48,8 @@ first-loop {c} {d} {m} {f} t s k h r = go t (judge t) (rw (append-nil (flatten t
         }
 
     go : (t : Links) (u : Verdict) →
-        Runs c d (size f) (binary-body (nextOp (flatten t)) 0 true false) f (judged f u (got (anyOf t false) (f ⊕ linksF t))) → Entered c (suc d) m t f u
+        Runs c d (size f) (expr-binary-text (nextOp (flatten t)) 0 Brace.Yes ErrorCx) f (judged f u (got (anyOf t false) (f ⊕ linksF t))) →
+        Entered c (suc d) m t f u
     go t (clash p a) x = seq-no (enter-ok (call-ok (seq-no x)))
     go end fine x = seq-ok (enter-ok (call-ok (seq-ok x done-ok))) done-ok
     go (link a g l) fine x = seq-ok (enter-ok (call-ok (seq-ok x done-ok))) done-ok
@@ -60,9 +62,9 @@ kindFor x (link a g l) = ExprBinary
 -- what follows the operand: the loop, and a group where it found an operator; no range at the end
 rest-ok : {c : Job} {d : ℕ} {f : Forest} {x : Tok} {w : List Tok} (t : Links) (u : Verdict) → Stands c f x w (flatten t) →
     size f + (2 + length w + size (linksF t) + wrap t) ≤ c .most → Entered c d (size f) t (f ⊕ operandG x w) u →
-    Runs c d (size f) (outer-rest (kindOf x) true true true false) (f ⊕ operandG x w)
+    Runs c d (size f) (outer-rest (mark (size f)) (kindOf x) Brace.Yes Range.Yes Binary.Yes ErrorCx) (f ⊕ operandG x w)
     (judged (f ⊕ operandG x w) u (got (kindFor x t) (f ⊕ around t (groupF x w t))))
-unfolding outer-rest outer-op outer-binary expr-range
+unfolding outer-rest outer-binary expr-range isRanged isBinary
 rest-ok t (clash q b) k r loop = seq-no (test-yes refl (seq-ok (look-ok (past-operand k)) (seq-no loop)))
 rest-ok {c} {d} {f} {x} {w} t fine k r loop =
     seq-ok (test-yes refl (seq-ok (look-ok (past-operand k)) (go t r (to loop (group-is f x w t)))))
@@ -72,22 +74,23 @@ rest-ok {c} {d} {f} {x} {w} t fine k r loop =
     at-end = at-on (around t (groupF x w t)) [] (at-as (k .at) (sym (append-nil _ ∙ group-leaves x w t)))
 
     go : (t : Links) → size f + (2 + length w + size (linksF t) + wrap t) ≤ c .most →
-        Runs c d (size f) (expr-binary (nextOp (flatten t)) 0 true false) (f ⊕ operandG x w) (got (anyOf t false) (f ⊕ groupF x w t)) →
-        Runs c d (size f) (expr-binary (nextOp (flatten t)) 0 true false >>= λ any. if any then finish ExprBinary else ret (kindOf x)) (f ⊕ operandG x w)
-        (got (kindFor x t) (f ⊕ around t (groupF x w t)))
+        Runs c d (size f) (expr-binary (nextOp (flatten t)) 0 Brace.Yes ErrorCx) (f ⊕ operandG x w) (got (anyOf t false) (f ⊕ groupF x w t)) →
+        Runs c d (size f)
+        (expr-binary (nextOp (flatten t)) 0 Brace.Yes ErrorCx >>= λ any. if any then finish (mark (size f)) ExprBinary else ret (kindOf x))
+        (f ⊕ operandG x w) (got (kindFor x t) (f ⊕ around t (groupF x w t)))
     go end r y = seq-ok y (test-no refl done-ok)
     go (link b g l) r y =
         seq-ok y (test-yes refl (seq-ok (close-ok ExprBinary f (groupF x w (link b g l)) (omega (arith, group-size f x w (link b g l)))) done-ok))
 
--- as `expr` enters it: Brace::Yes, Range::Yes, Binary::Yes, no recovery
+-- as `expr` enters it
 abbrev first-rule : Rule
-first-rule = outer-rule true true true false
+first-rule = outer-rule Brace.Yes Range.Yes Binary.Yes ErrorCx
 
 first-ok : {c : Job} {d : ℕ} {f : Forest} {x : Tok} {w : List Tok} (t : Links) → Shape t → Stands c f x w (flatten t) → 12 ≤ d →
     size f + (2 + length w + size (linksF t) + wrap t) ≤ c .most →
     Enters c (suc (suc d)) first-rule f (judged (f ⊕ operandG x w) (judge t) (got (kindFor x t) (f ⊕ around t (groupF x w t))))
 first-ok {f = f} {x = x} {w = w} t s k h r =
-    outer-ok true true true false k (omega arith)
+    outer-ok Brace.Yes Range.Yes Binary.Yes ErrorCx k (omega arith)
     (rest-ok t (judge t) k r (first-loop t s (past-operand k) h (omega (arith, operand-size f x w))))
 
 -- ## expr
@@ -161,7 +164,8 @@ module _ (l : Line) (t : Links) (e : flatten t ≡ l .rest) (s : Shape t) (p : P
       go : (u : Verdict) →
           Enters c (suc (suc d)) first-rule (leafs (l .lead))
           (judged (leafs (l .lead) ⊕ operandG (l .first) (l .after)) u (got (kindFor (l .first) t) (leafs (l .lead) ⊕ wholeF l t))) →
-          Runs c (suc (suc d)) (size (leafs (l .lead))) (enter first-rule >> close Expr) (leafs (l .lead)) (result (begin l) u (got tt (exprF l t)))
+          Runs c (suc (suc d)) (size (leafs (l .lead)))
+          (enter first-rule >> close (mark (size (leafs (l .lead)))) Expr) (leafs (l .lead)) (result (begin l) u (got tt (exprF l t)))
       go fine k = seq-ok (enter-ok k) (close-ok Expr (leafs (l .lead)) (wholeF l t) last)
       go (clash q b) k = halt-to (seq-no (enter-ok k)) (omega (arith, before))
 

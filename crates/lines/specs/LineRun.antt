@@ -9,12 +9,13 @@ use native.Mathlib.Omega.{arith}
 use lib.ListN.{length, length-append}
 use lib.Dec.{leb, eqb}
 use borrow.Author.Tests.{eqb-true, leb-true, not-true}
-use Rattle.definition.specs.Kinds.{Eof, K-ident, K-is, K-not, K-bracket, K-paren, K-brace, K-!, K-?, K-dot, K-=, Lit, Path}
-use Rattle.definition.specs.Classes.{among, treated, isTrivia, isLit, isPathComponent, isRange, glues, allows, linked}
+use Rattle.definition.specs.Kinds.{Eof, K-ident, K-is, K-not, K-bracket, K-paren, K-brace, K-!, K-?, K-dot, K-=, tokens, Lit, Path}
+use Rattle.definition.specs.Classes.{among, isAssigned, treated, isTrivia, isLit, isPathComponent, isRange, glues, bracedBy, linked}
+use Rattle.definition.specs.Modes.{Brace, Range, Binary, ExprCx, isRanged, isBinary}
 use Rattle.definition.specs.Operators.{Op, bindings, bindingIn, from-slice}
 use Rattle.definition.specs.Tape.{gluedAt}
-use Rattle.definition.specs.Prog.{done, nth, ret, _>>=_, outer-rule}
-use Rattle.definition.specs.Grammar.{grammar, lookahead, advance, path, path-body, path-segments, path-segment, while-turn, expr-primary, primary-kind, primary-path, expr-chain, chain-turn, chain-step, chain-link, outer-body, outer-chain, outer-rest, outer-op}
+use Rattle.definition.specs.Prog.{Prog, Mark, mark, done, nth, ret, _>>=_, if_then_else_, outer-rule}
+use Rattle.definition.specs.Grammar.{grammar, lookahead, advance, path, path-text, path-segments, path-segment, while-turn, expr-primary, primary-path, expr-chain, chain-turn, chain-step, chain-link, outer-binary, expr-range, outer-expr-with-text}
 use Rattle.trees.specs.Forest.{Tok, Forest, none, leaf, node, _⊕_, size, st, leafs, app-assoc, size-app, leaves-app, leafs-leaves}
 use Rattle.lines.specs.Line.{Sign, one, isNot, Item, All, Head, Gap, isOperand, isOperator, Operand, Operator, Proper, signToks, restToks, key, bind}
 use Rattle.lines.specs.LineKinds.{every, operands, operand-every, everyIn, operator-every}
@@ -47,11 +48,11 @@ operator-solid t h = not-true _ (operator-every (λ k. not (isTrivia k)) refl (t
 
 -- both are seen as they are
 operand-treated : (t : Tok) → Operand t → treated (t .kind) ≡ t .kind
-unfolding every treated
+unfolding every treated isAssigned among tokens
 operand-treated t h = eqb-true _ _ (operand-every (λ k. eqb (treated k) k) refl (t .kind) h)
 
 operator-treated : (t : Tok) → isOperator (t .kind) ≡ true → treated (t .kind) ≡ t .kind
-unfolding everyIn every bindings treated
+unfolding everyIn every bindings treated isAssigned among tokens
 operator-treated t h = eqb-true _ _ (operator-every (λ k. eqb (treated k) k) refl (t .kind) h)
 
 pub operand-sees : {t : Tok} {r : List Tok} → Operand t → Sees 0 (t ∷ r) (t .kind)
@@ -86,7 +87,7 @@ unfolding isTrivia among
 not-solid u e = rw e
 
 not-sees : {u : Tok} {r : List Tok} → u .kind ≡ K-not → Sees 0 (u ∷ r) K-not
-unfolding treated
+unfolding treated isAssigned among tokens
 not-sees {u} e = sees-to (sees-zero (not-solid u e)) (rw e)
 
 pub sign-solid : (s : Sign) (x : List Tok) → Operator s → Head Solid (signToks s ++ x)
@@ -192,7 +193,7 @@ module _ {c : Job} {d m : ℕ} {f : Forest} where
   -- a path of one identifier
   path-ok : {t : Tok} {w : List Tok} {l : List Item} → Stands c f t w l → t .kind ≡ K-ident → size f + 2 ≤ c .most →
       Runs c (suc d) m path f (got tt (f ⊕ node Path (leaf t none) none))
-  unfolding grammar path path-body path-segments path-segment while-turn isPathComponent among every everyIn bindings
+  unfolding grammar path path-text path-segments path-segment while-turn isPathComponent among every everyIn bindings
   path-ok {t} {w} {l} k e r =
       seq-ok (enter-ok (call-ok (seq-ok
       (scope-here (k .at) s (omega arith)
@@ -229,9 +230,9 @@ kind-plain t = go (isLit (t .kind))
     go false = refl
 
 module _ {c : Job} {d m : ℕ} {f : Forest} {t : Tok} {w : List Tok} {l : List Item} where
-  primary-ok : (brace range cx : Bool) → Stands c f t w l → size f + 2 ≤ c .most →
+  primary-ok : (brace : Brace) (range : Range) (cx : ExprCx) → Stands c f t w l → size f + 2 ≤ c .most →
       Runs c (suc d) m (expr-primary brace range cx) f (got (kindOf t) (f ⊕ operandF t))
-  unfolding expr-primary primary-kind primary-path kindOf isPathComponent isOperand among allows glues every everyIn bindings
+  unfolding expr-primary primary-path kindOf isPathComponent isOperand among bracedBy glues every everyIn bindings
   primary-ok brace range cx k r = go (isLit (t .kind)) refl
     where
       n : Next l
@@ -255,14 +256,15 @@ module _ {c : Job} {d m : ℕ} {f : Forest} {t : Tok} {w : List Tok} {l : List I
           rw e
           (scope-here (k .at) s (omega arith) (seq-ok (nth-ok (k .at) sees) (seq-ok glued-ok
           (test-no e (test-yes (ap isPathComponent ident) (seq-ok (path-ok k ident r) (seq-ok (nth-ok b (sees-gap w (k .gap) (n .sees))) (seq-ok glued-ok
-          (test-no (ends-never (λ k. allows brace K-brace k) refl refl (n .ends))
+          (test-no (ends-never (λ k. bracedBy brace k) refl refl (n .ends))
           (test-no (ends-never (λ k. glues K-! K-paren k j) refl refl (n .ends))
           (test-no (ends-never (λ k. glues K-! K-brace k j) refl refl (n .ends)) done-ok)))))))))))
 
   -- no link follows; the trivia after an operand is written by looking for one
-  chain-ok : (kind : ℕ) → Stands c f t w l → size f + (2 + length w) ≤ c .most → Runs c d m (expr-chain kind) (f ⊕ operandF t) (got kind (f ⊕ operandG t w))
+  chain-ok : (b : Mark) (kind : ℕ) → Stands c f t w l → size f + (2 + length w) ≤ c .most →
+      Runs c d m (expr-chain b kind) (f ⊕ operandF t) (got kind (f ⊕ operandG t w))
   unfolding expr-chain chain-turn chain-step chain-link linked every everyIn bindings
-  chain-ok kind k r =
+  chain-ok b kind k r =
       to (seq-ok (loop-end (seq-ok
       (scope-ok w (restToks l) a (k .gap) (rest-solid l (k .items)) (rw size-app (omega arith))
       (seq-ok (nth-ok (at-leafs w (restToks l) a) (n .sees))
@@ -279,21 +281,28 @@ module _ {c : Job} {d m : ℕ} {f : Forest} {t : Tok} {w : List Tok} {l : List I
       a : At c (f ⊕ operandF t) (w ++ restToks l)
       a = at-on (operandF t) (w ++ restToks l) (k .at)
 
+-- what outer_expr_with does behind its chain where no `=` follows, as its text has it
+unfoldable pub outer-rest : Mark → ℕ → Brace → Range → Binary → ExprCx → Prog ℕ
+outer-rest c kind brace range binary cx = do
+  kind′ ← if isBinary binary then outer-binary c kind brace cx else ret kind
+  if isRanged range then expr-range c kind′ brace else ret kind′
+
 module _ {c : Job} {d : ℕ} {f : Forest} {t : Tok} {w : List Tok} {l : List Item} where
   -- an operand in outer_expr_with, and then what follows it there
-  pub outer-ok : {o : Got ℕ} (brace range binary cx : Bool) → Stands c f t w l → size f + (2 + length w) ≤ c .most →
-      Runs c (suc d) (size f) (outer-rest (kindOf t) brace range binary cx) (f ⊕ operandG t w) o → Enters c (suc (suc d)) (outer-rule brace range binary cx) f o
-  unfolding grammar outer-body outer-chain every everyIn bindings
+  pub outer-ok : {o : Got ℕ} (brace : Brace) (range : Range) (binary : Binary) (cx : ExprCx) → Stands c f t w l → size f + (2 + length w) ≤ c .most →
+      Runs c (suc d) (size f) (outer-rest (mark (size f)) (kindOf t) brace range binary cx) (f ⊕ operandG t w) o →
+      Enters c (suc (suc d)) (outer-rule brace range binary cx) f o
+  unfolding grammar outer-expr-with-text outer-rest every everyIn bindings
   outer-ok brace range binary cx k r rest =
       let n = next l (k .items) in
       call-ok (scope-here (k .at) (operand-solid t (k .operand)) (omega arith)
       (seq-ok (primary-ok brace range cx k (omega arith))
       (test-no (kind-plain t)
-      (seq-ok (chain-ok (kindOf t) k r)
+      (seq-ok (chain-ok (mark (size f)) (kindOf t) k r)
       (seq-ok (seq-ok (nth-ok (past-operand k .at) (n .sees)) done-ok) (test-no (ends-never (λ k. eqb k K-=) refl refl (n .ends)) rest))))))
 
   -- an operand alone, as it is read after an operator
-  pub operand-ok : (brace cx : Bool) → Stands c f t w l → size f + (2 + length w) ≤ c .most →
-      Enters c (suc (suc d)) (outer-rule brace false false cx) f (got (kindOf t) (f ⊕ operandG t w))
-  unfolding outer-rest outer-op
-  operand-ok brace cx k r = outer-ok brace false false cx k r (seq-ok (test-no refl done-ok) (test-no refl done-ok))
+  pub operand-ok : (brace : Brace) (cx : ExprCx) → Stands c f t w l → size f + (2 + length w) ≤ c .most →
+      Enters c (suc (suc d)) (outer-rule brace Range.No Binary.No cx) f (got (kindOf t) (f ⊕ operandG t w))
+  unfolding outer-rest isRanged isBinary
+  operand-ok brace cx k r = outer-ok brace Range.No Binary.No cx k r (seq-ok (test-no refl done-ok) (test-no refl done-ok))

@@ -2,7 +2,7 @@
 -- Assumes nothing.
 use Prim.Native.Nat.{ℕ, zero, suc, _+_, _≤_, _<_}
 use mathlib.Core.Path.{_≡_, refl, subst, sym}
-use mathlib.Core.Bool.{Bool, true, false, not, cond, _&&_, _||_}
+use mathlib.Core.Bool.{Bool, true, false, not, cond, _&&_}
 use mathlib.Core.Logic.{inl}
 use mathlib.Core.List.{List, [], _∷_, _++_, append-assoc}
 use native.Mathlib.Omega.{arith}
@@ -11,9 +11,10 @@ use lib.Dec.{leb, ltb, eqb}
 use borrow.Author.Tests.{lt-ltb, le-ltb, ltb-true, leb-true, ne-eqb}
 use Rattle.definition.specs.Kinds.{ExprBinary, ExprOperator}
 use Rattle.definition.specs.Classes.{among}
-use Rattle.definition.specs.Operators.{bindings, bindingIn, associative, isNone, isBelow, isTighter, clashes}
-use Rattle.definition.specs.Prog.{loop}
-use Rattle.definition.specs.Grammar.{grammar, operator, operand, nest, tighter-turn, binary-turn, binary-body, expr-binary, outer-expr-with}
+use Rattle.definition.specs.Modes.{Brace, ExprCx}
+use Rattle.definition.specs.Operators.{Op, bindings, bindingIn, associative, isNone, isBelow, isTighter, clashes}
+use Rattle.definition.specs.Prog.{mark, loop}
+use Rattle.definition.specs.Grammar.{grammar, operator, operand, nest, tighter-turn, binary-turn, expr-binary-text, expr-binary, outer-expr-with}
 use Rattle.trees.specs.Forest.{Tok, Forest, _⊕_, size, leaves, leafs, app-none, app-assoc, size-app, leaves-app, leafs-size, leafs-leaves}
 use Rattle.lines.specs.Line.{Item, All, Head, Proper, signToks, restToks, bind, Links, end, link, flatten, Tighter}
 use Rattle.lines.specs.LineKinds.{every, everyIn}
@@ -146,16 +147,12 @@ unfolding isNone
 some a h = ne-eqb (bind a) 0 (omega (arith, bind-pos a h))
 
 below : (a : Item) (least : ℕ) → bind a < least → isBelow least (opOf a) ≡ true
-unfolding isBelow isNone
-below a least h = go (eqb (bind a) 0)
-  where
-    go : (b : Bool) → (b || ltb (bind a) least) ≡ true
-    go true = refl
-    go false = lt-ltb (bind a) least h
-
-not-below : (a : Item) → Proper a → (least : ℕ) → least ≤ bind a → isBelow least (opOf a) ≡ false
 unfolding isBelow
-not-below a p least h = rw (some a p, le-ltb (bind a) least h)
+below a least h = lt-ltb (bind a) least h
+
+not-below : (a : Item) (least : ℕ) → least ≤ bind a → isBelow least (opOf a) ≡ false
+unfolding isBelow
+not-below a least h = le-ltb (bind a) least h
 
 -- ## The loop, in either mode
 
@@ -181,7 +178,7 @@ record Turn (c : Job) (least : ℕ) (f : Forest) (a : Item) (g l : Links) (r : L
   high : least ≤ bind a
   room : size f + (plain a + size (linksF g) + wrap g) ≤ c .most
 
-module _ (brace cx : Bool) where
+module _ (brace : Brace) (cx : ExprCx) where
   -- the loop, where the items x come next
   abbrev Loop : Job → ℕ → ℕ → ℕ → List Item → Bool → Forest → Got Bool → Type 0
   Loop c d m least x any f o = Runs c d m (loop (binary-turn least brace cx) (nextOp x, any)) f o
@@ -190,17 +187,19 @@ module _ (brace cx : Bool) where
   Sim t = (c : Job) (any : Bool) (d m least b : ℕ) (f : Forest) (r : List Item) → Ready c d least b f t r →
       Loop c d m least (flatten t ++ r) any f (judged f (judge t) (got (anyOf t any) (f ⊕ linksF t)))
 
-  -- the loop behind a's operand, from a forest h on, where the items x come next
-  abbrev After : Job → ℕ → Forest → Item → Forest → List Item → Got (Unit {0}) → Type 0
-  After c d f a h x o = Runs c d (size (spaced f a)) (loop (tighter-turn (opOf a) brace cx (length (leaves (spaced f a)))) (nextOp x)) h o
+  -- the loop behind a's operand, from a forest h on, where the items x come next; its mark is before the operand
+  abbrev After : Job → ℕ → Forest → Item → Forest → List Item → Got Op → Type 0
+  After c d f a h x o =
+      let n = size (spaced f a) in
+      Runs c d n (loop (tighter-turn (mark n) (opOf a) brace cx (length (leaves (spaced f a)))) (nextOp x)) h o
 
   sim-end : Sim end
-  unfolding judge binary-turn isBelow isNone
-  sim-end c any d m least b f r q = to (go r (q .low)) (sym (app-none f))
+  unfolding judge binary-turn isNone
+  sim-end c any d m least b f r q = to (go r (q .comes .proper) (q .low)) (sym (app-none f))
     where
-      go : (r : List Item) → Head (Under least) r → Loop c d m least r any f (got any f)
-      go [] h = loop-end (test-yes refl done-ok)
-      go (a ∷ r) h = loop-end (test-yes (below a least h) done-ok)
+      go : (r : List Item) → All Proper r → Head (Under least) r → Loop c d m least r any f (got any f)
+      go [] p h = loop-end (test-yes refl done-ok)
+      go (a ∷ r) p h = loop-end (test-no (some a (p .0)) (test-yes (below a least h) done-ok))
 
   -- ### One turn
 
@@ -213,7 +212,7 @@ module _ (brace cx : Bool) where
       (close-ok ExprOperator f (leafs (signToks (a .sign))) (rw (size-app, leafs-size) (omega arith))))
 
   -- the operand, and then the loop behind it
-  operand-then : {c : Job} {d m : ℕ} {f : Forest} {a : Item} {x : List Item} {o : Got (Unit {0})} → Comes c f (a ∷ x) → size f + plain a ≤ c .most →
+  operand-then : {c : Job} {d m : ℕ} {f : Forest} {a : Item} {x : List Item} {o : Got Op} → Comes c f (a ∷ x) → size f + plain a ≤ c .most →
       After c (suc (suc d)) f a (taken f a) x o → Runs c (suc (suc d)) m (operand (opOf a) brace cx) (signed f a) o
   unfolding operand outer-expr-with
   operand-then {f = f} {a = a} k room rest =
@@ -223,22 +222,23 @@ module _ (brace cx : Bool) where
       (seq-ok (enter-ok (operand-ok brace cx (past-gap k) (omega (arith, spaced-size f a))))
       (seq-ok (look-ok (past-operand (past-gap k))) rest)))
 
-  -- a turn, up to a refusal, and up to where the items y come next
+  -- a turn, up to a refusal, and up to the operator that is left over
   module _ {c : Job} {d m least : ℕ} {f : Forest} {a : Item} {x : List Item} (any : Bool) (k : Comes c f (a ∷ x)) (high : least ≤ bind a)
       (room : size f + plain a ≤ c .most) where
     turn-no : {n pl : ℕ} → After c (suc (suc d)) f a (taken f a) x (halt n pl) → Runs c (suc (suc d)) m (binary-turn least brace cx (opOf a, any)) f (halt n pl)
     unfolding binary-turn
-    turn-no rest = test-no (not-below a (k .proper .0) least high) (seq-ok (operator-ok k room) (seq-no (operand-then k room rest)))
+    turn-no rest =
+        test-no (some a (k .proper .0)) (test-no (not-below a least high) (seq-ok (operator-ok k room) (seq-no (operand-then k room rest))))
 
-    turn-on : {g : Forest} {y : List Item} → Comes c g y → After c (suc (suc d)) f a (taken f a) x (got tt g) →
-        Runs c (suc (suc d)) m (binary-turn least brace cx (opOf a, any)) f (got (inl (nextOp y, true)) g)
+    turn-on : {g : Forest} {ahead : Op} → After c (suc (suc d)) f a (taken f a) x (got ahead g) →
+        Runs c (suc (suc d)) m (binary-turn least brace cx (opOf a, any)) f (got (inl (ahead, true)) g)
     unfolding binary-turn
-    turn-on b rest =
-        test-no (not-below a (k .proper .0) least high) (seq-ok (operator-ok k room) (seq-ok (operand-then k room rest) (seq-ok (look-ok b) done-ok)))
+    turn-on rest =
+        test-no (some a (k .proper .0)) (test-no (not-below a least high) (seq-ok (operator-ok k room) (seq-ok (operand-then k room rest) done-ok)))
 
   -- what follows an operand and its group: the loop behind the operand ends, or the neighbour clashes
   tail : {c : Job} {d least : ℕ} {f : Forest} {a : Item} {g : Links} (l : Links) (r : List Item) → Turn c least f a g l r → (h : Forest) →
-      After c d f a h (flatten l ++ r) (judged f (neighbour a l) (got tt h))
+      After c d f a h (flatten l ++ r) (judged f (neighbour a l) (got (nextOp (flatten l ++ r)) h))
   unfolding tighter-turn neighbour isTighter clashes isNone
   tail end [] k h = loop-end (test-yes refl done-ok)
   tail {a = a} {g = g} end (b ∷ r) k h =
@@ -251,7 +251,7 @@ module _ (brace cx : Bool) where
       p = all-back Proper (flatten g) (flatten (link b g′ l) ++ r) (k .comes .proper .1) .0
 
       go : (z : Bool) → (eqb (bind a) (bind b) && not (associative (bind b))) ≡ z →
-          After c d f a h (flatten (link b g′ l) ++ r) (judged f (cond z (clash [] a) fine) (got tt h))
+          After c d f a h (flatten (link b g′ l) ++ r) (judged f (cond z (clash [] a) fine) (got (opOf b) h))
       go true w = halt-to (loop-no (test-no (some b p) (test-no (le-ltb (bind a) (bind b) (k .next)) (test-yes w stop-no)))) (spaced-length f a)
       go false w = loop-end (test-no (some b p) (test-no (le-ltb (bind a) (bind b) (k .next)) (test-no w done-ok)))
 
@@ -260,8 +260,8 @@ module _ (brace cx : Bool) where
       Loop c (suc d) (size (taken f a)) (bind a + 1) (flatten (link b g m) ++ (flatten l ++ r)) false (taken f a)
       (judged (taken f a) u (got true (taken f a ⊕ linksF (link b g m)))) →
       After c (suc (suc d)) f a (taken f a) (flatten (link b g m) ++ (flatten l ++ r))
-      (judged (taken f a) u (judged f (neighbour a l) (got tt (grouped f a (link b g m)))))
-  unfolding tighter-turn nest expr-binary grammar binary-body isTighter
+      (judged (taken f a) u (judged f (neighbour a l) (got (nextOp (flatten l ++ r)) (grouped f a (link b g m)))))
+  unfolding tighter-turn nest expr-binary grammar expr-binary-text isTighter
   group {f = f} {a = a} {b = b} {g = g} {m = m} {l = l} {r = r} k fine x =
       let t = link b g m in
       let inside = flatten g ++ flatten m in
@@ -285,10 +285,12 @@ module _ (brace cx : Bool) where
   inner : {c : Job} {d least : ℕ} {f : Forest} {a : Item} (g l : Links) (r : List Item) → Turn c least f a g l r →
       Loop c (suc d) (size (taken f a)) (bind a + 1) (flatten g ++ (flatten l ++ r)) false (taken f a)
       (judged (taken f a) (judge g) (got (anyOf g false) (taken f a ⊕ linksF g))) →
-      After c (suc (suc d)) f a (taken f a) (flatten g ++ (flatten l ++ r)) (judged (taken f a) (judge g) (judged f (neighbour a l) (got tt (grouped f a g))))
+      After c (suc (suc d)) f a (taken f a) (flatten g ++ (flatten l ++ r))
+      (judged (taken f a) (judge g) (judged f (neighbour a l) (got (nextOp (flatten l ++ r)) (grouped f a g))))
   unfolding judge
   inner {c} {d} {f = f} {a = a} end l r k x =
-      subst (λ (z : Forest). After c (suc (suc d)) f a (taken f a) (flatten l ++ r) (judged f (neighbour a l) (got tt z))) plain-group (tail l r k (taken f a))
+      subst (λ (z : Forest). After c (suc (suc d)) f a (taken f a) (flatten l ++ r) (judged f (neighbour a l) (got (nextOp (flatten l ++ r)) z))) plain-group
+      (tail l r k (taken f a))
     where
       plain-group : taken f a ≡ grouped f a end
       plain-group = simp app-none
@@ -298,7 +300,7 @@ module _ (brace cx : Bool) where
 
   -- the first of the three verdicts that is a clash decides: that on the nested group, on the neighbour, on the rest
   join : {c : Job} {d m least : ℕ} {f : Forest} {a : Item} {g l : Links} {r : List Item} (any : Bool) → Turn c least f a g l r → (u v w : Verdict) →
-      After c (suc (suc d)) f a (taken f a) (flatten g ++ (flatten l ++ r)) (judged (taken f a) u (judged f v (got tt (grouped f a g)))) →
+      After c (suc (suc d)) f a (taken f a) (flatten g ++ (flatten l ++ r)) (judged (taken f a) u (judged f v (got (nextOp (flatten l ++ r)) (grouped f a g)))) →
       Loop c (suc (suc d)) m least (flatten l ++ r) true (grouped f a g) (judged (grouped f a g) w (got (anyOf l true) (grouped f a g ⊕ linksF l))) →
       Loop c (suc (suc d)) m least (a ∷ (flatten g ++ (flatten l ++ r))) any f
       (judged f (orElse (past (a ∷ []) u) (orElse v (past (a ∷ flatten g) w))) (got true (f ⊕ linksF (link a g l))))
@@ -308,7 +310,7 @@ module _ (brace cx : Bool) where
   join any k fine (clash p e) w x y = loop-no (turn-no any (k .comes) (k .high) (omega (arith, k .room)) x)
   join {c} {d} {m} {least} {f} {a} {g} {l} {r} any k fine fine w x y =
       loop-more (past-group g (k .comes) .at) (omega (arith, long, rest-length a (flatten g)))
-      (turn-on any (k .comes) (k .high) (omega (arith, k .room)) (past-group g (k .comes)) x) (go w y)
+      (turn-on any (k .comes) (k .high) (omega (arith, k .room)) x) (go w y)
     where
       long : length (leaves (grouped f a g)) ≡ length (leaves f) + length (restToks (a ∷ flatten g))
       long = grouped-length g (flatten l ++ r) (k .comes)

@@ -11,7 +11,7 @@ use Rattle.trees.specs.Forest.{Tok}
 use Rattle.lines.specs.Line.{Sign, one, isNot, Item, Line, All, Head, Gap, Operand, Operator, Proper, ProperLine, isOperand, signToks, restToks, spell}
 use Rattle.lines.specs.Grouping.{apart}
 use Rattle.lines.specs.Writes.{Solid}
-use Rattle.lines.specs.LineRun.{operand-solid, sign-solid, rest-solid}
+use Rattle.lines.specs.LineRun.{operand-solid, rest-solid}
 
 -- ## What is no trivia
 

@@ -6,12 +6,12 @@ use mathlib.Core.Bool.{true}
 use mathlib.Core.List.{List, map}
 use Rattle.definition.specs.Classes.{among}
 use Rattle.definition.specs.Operators.{bindings}
-use Rattle.definition.specs.Table.{Entry, table}
+use Rattle.definition.specs.Table.{Listing, table}
 use Rattle.lines.specs.Line.{isOperator}
 use Rattle.lines.specs.LineKinds.{every, everyIn, operator-every}
 
 abbrev operators : List ℕ
-operators = map (λ (e : Entry). e .operator) table
+operators = map (λ (e : Listing). e .operator) table
 
 pub no-other : (k : ℕ) → isOperator k ≡ true → among k operators ≡ true
 unfolding every everyIn table bindings among

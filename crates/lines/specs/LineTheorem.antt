@@ -9,7 +9,7 @@ use lib.ListN.{length, length-append}
 use lib.Dec.{leb}
 use borrow.Author.Tests.{le-leb, leb-true, eq-eqb}
 use Rattle.definition.specs.Kinds.{K-yield, K-Other}
-use Rattle.definition.specs.Classes.{isToken, isTrivia, treated}
+use Rattle.definition.specs.Classes.{isToken, isTrivia, isAssigned, treated}
 use Rattle.definition.specs.Tape.{Out, refused, guard, width}
 use Rattle.definition.specs.Grammar as Grammar
 use Rattle.definition.specs.Parse.{exprs, program, isEntry, isLimit, firstNot, firstOver, admitted, run, start}
@@ -92,7 +92,7 @@ line-tokens l p =
 -- a separator is no Eof, treated as Other or not
 separator-some : (k : ℕ) → isEntry (exprs k) ≡ true → 0 < treated k
 unfolding isEntry isToken treated
-separator-some k h = go (leb 1 k) refl (leb k K-yield) h
+separator-some k h = go (leb 1 k) refl (isAssigned k) h
   where
     go : (x : Bool) → leb 1 k ≡ x → (y : Bool) → ((x && leb k 127) && not (isTrivia k)) ≡ true → 0 < cond y k K-Other
     go true p true e = leb-true 1 k p

@@ -9,11 +9,11 @@ use mathlib.Core.List.{List, [], _∷_, _++_, append-nil, append-assoc}
 use native.Mathlib.Omega.{arith}
 use lib.ListN.{length, length-append, getD, drop}
 use lib.Seq.{getD-append-seam, drop-append-seam}
-use borrow.Author.Tests.{lt-ltb}
+use borrow.Author.Tests.{lt-ltb, eq-eqb}
 use Rattle.definition.specs.Kinds.{Eof}
 use Rattle.definition.specs.Classes.{isTrivia, treated}
 use Rattle.definition.specs.Tape.{In, Row, State, Out, ok, refused, andThen, choose, guard, triv, nthKind, hereAt, nthAt, gluedAt, room, wroteLeaf, leafAt, leavesAt, flushAt, bumpAt, startOf, nodeOver, wroteNode, closeAt, width, capacity}
-use Rattle.definition.specs.Prog.{Prog, done, seq, nth, glued, here, flush, bump, scope, close, stop, enter, test, repeat, Rule, Calls, left, turn, eval, call}
+use Rattle.definition.specs.Prog.{Prog, Mark, mark, done, seq, nth, glued, here, flush, bump, scope, close, stop, enter, test, repeat, Rule, Calls, left, turn, eval, call}
 use Rattle.definition.specs.Grammar.{grammar}
 use Rattle.laws.specs.Unroll.{unroll}
 use Rattle.trees.specs.Forest.{Tok, Forest, none, leaf, node, _⊕_, size, bytes, leaves, rows, st, kinds, lens, inOf, kinds-length, lens-length, leafs, leafs-leaves, app-none, app-assoc, size-app, bytes-app, leaves-app, rows-app, rows-length, rows-start, rows-leavesLen}
@@ -270,18 +270,18 @@ close-sim c k f h r =
     row b = record { kind = k; back = size h; start = b; len = bytes h }
 
 module _ {c : Job} {d m : ℕ} {f : Forest} where
-  -- a checkpoint: its program runs after the pending trivia, under the mark of the rows so far
-  pub scope-ok : {A : Type 0} {p : Prog A} {o : Got A} (g rest : List Tok) → At c f (g ++ rest) → Gap g → Head Solid rest → size f + length g ≤ c .most →
-      Runs c d (size (f ⊕ leafs g)) p (f ⊕ leafs g) o → Runs c d m (scope p) f o
+  -- a checkpoint: its program runs after the pending trivia, with and under the mark of the rows so far
+  pub scope-ok : {A : Type 0} {p : Mark → Prog A} {o : Got A} (g rest : List Tok) → At c f (g ++ rest) → Gap g → Head Solid rest → size f + length g ≤ c .most →
+      Runs c d (size (f ⊕ leafs g)) (p (mark (size (f ⊕ leafs g)))) (f ⊕ leafs g) o → Runs c d m (scope p) f o
   unfolding eval andThen
   scope-ok {p = p} g rest a h k r x =
-      record { is = rw (flush-sim g rest a h k r) (ap (λ (n : ℕ). eval (input c) (calls c d) n p (st (f ⊕ leafs g))) (st-rows (f ⊕ leafs g)) ∙ x .is) }
+      record { is = rw (flush-sim g rest a h k r) (ap (λ (n : ℕ). eval (input c) (calls c d) n (p (mark n)) (st (f ⊕ leafs g))) (st-rows (f ⊕ leafs g)) ∙ x .is) }
 
   -- where no trivia is
-  pub scope-here : {A : Type 0} {p : Prog A} {o : Got A} {rest : List Tok} → At c f rest → Head Solid rest → size f ≤ c .most →
-      Runs c d (size f) p f o → Runs c d m (scope p) f o
+  pub scope-here : {A : Type 0} {p : Mark → Prog A} {o : Got A} {rest : List Tok} → At c f rest → Head Solid rest → size f ≤ c .most →
+      Runs c d (size f) (p (mark (size f))) f o → Runs c d m (scope p) f o
   scope-here {p = p} {o = o} {rest = rest} a k r x =
-      scope-ok [] rest a tt k (omega arith) (subst (λ (z : Forest). Runs c d (size z) p z o) (sym (app-none f)) x)
+      scope-ok [] rest a tt k (omega arith) (subst (λ (z : Forest). Runs c d (size z) (p (mark (size z))) z o) (sym (app-none f)) x)
 
   pub flush-ok : (g rest : List Tok) → At c f (g ++ rest) → Gap g → Head Solid rest → size f + length g ≤ c .most → Runs c d m flush f (got tt (f ⊕ leafs g))
   unfolding eval
@@ -311,9 +311,9 @@ module _ {c : Job} {d m : ℕ} {f : Forest} where
   unfolding eval
   glued-ok = record { is = refl }
 
-pub close-ok : {c : Job} {d : ℕ} (k : ℕ) (f h : Forest) → size (f ⊕ h) < c .most → Runs c d (size f) (close k) (f ⊕ h) (got tt (f ⊕ node k h none))
-unfolding eval
-close-ok {c} k f h r = record { is = close-sim c k f h r }
+pub close-ok : {c : Job} {d : ℕ} (k : ℕ) (f h : Forest) → size (f ⊕ h) < c .most → Runs c d (size f) (close (mark (size f)) k) (f ⊕ h) (got tt (f ⊕ node k h none))
+unfolding eval choose
+close-ok {c} k f h r = record { is = rw (eq-eqb (size f) (size f) refl) (close-sim c k f h r) }
 
 left-less : {c : Job} (f : Forest) {g : Forest} {rest : List Tok} → At c g rest → length (leaves f) < length (leaves g) →
     left (input c) (st g) < left (input c) (st f)
@@ -324,6 +324,6 @@ left-less f q h = rw kinds-length (omega (arith, count q))
 pub loop-more : {c : Job} {d m : ℕ} {A B : Type 0} {p : A → Prog (A ⊎ B)} {a b : A} {o : Got B} {f g : Forest} {rest : List Tok} →
     At c g rest → length (leaves f) < length (leaves g) →
     Runs c d m (p a) f (got (inl b) g) → Runs c d m (repeat p b) g o → Runs c d m (repeat p a) f o
-unfolding andThen turn guard
+unfolding andThen turn choose
 loop-more {c = c} {d = d} {m = m} {p = p} {a = a} {f = f} {g = g} q h x y =
     record { is = rw (unroll (input c) (calls c d) m p a (st f), x .is, lt-ltb (left (input c) (st g)) (left (input c) (st f)) (left-less f q h)) (y .is) }

@@ -1,28 +1,14 @@
-// Items that hold no expression: items.rt.
+// Structs, enums and `use`, and the parts of functions and `impl` that hold no expression. Each function is a rule of grammar.rs or a part of one: its Rust name and line stand above it.
 ghost use mathlib.Core.Path.{_≡_};
 ghost use Prim.Native.Nat.{_<_};
-ghost use Rattle.definition.specs.Grammar.{item-struct, any-body, field-body, fields as fieldsProg, field as fieldProg, item-enum, enum-body, variants as variantsProg, variant as variantProg, variant-item, item-use as itemUse, item-use-body as itemUseBody, use-parts as useParts, use-group as useGroup, use-paths as usePaths, use-path as usePath, use-item as useItem, fn-args, fn-arg-list, impl-path};
+ghost use Rattle.definition.specs.Grammar.{item-struct, any-body, field-body, fields as fieldsProg, field as fieldProg, item-enum, enum-body, variants as variantsProg, variant as variantProg, variant-item, item-use as itemUse, item-use-text as itemUseText, use-parts as useParts, use-group as useGroup, use-paths as usePaths, use-path as usePath, use-item as useItem, fn-args, fn-arg-list, impl-path};
 ghost use Rattle.tape.specs.View.{said, Ready, Marked, Step, Ran};
 use super::paths;
 use super::patterns;
-use kinds::AS;
-use kinds::BRACE;
-use kinds::BRACE_END;
-use kinds::COMMA;
-use kinds::EMPTY_BODY;
-use kinds::FIELD;
-use kinds::FN_ARGS;
-use kinds::IDENT;
-use kinds::ITEM_USE_GROUP;
-use kinds::ITEM_USE_PATH;
-use kinds::PAREN;
-use kinds::PAREN_END;
-use kinds::STRUCT_BODY;
-use kinds::TUPLE_BODY;
-use kinds::VARIANT;
+use kinds::*;
 use tape::Tape;
 
-// item_struct of grammar.rs
+// item_struct (348).
 pub fn item_struct(tape: Tape, kinds: &[u8], lens: &[u32], table: &mut [u32]) -> Tape
     requires { ⌜ Ready tape (now kinds) (now lens) (now table) ⌝ }
     ensures { λ r. ⌜ Ran item-struct tt tape r (now (kinds .entry)) (now (lens .entry)) (now (table .entry)) (now (table .exit)) ⌝ }
@@ -38,7 +24,7 @@ pub fn item_struct(tape: Tape, kinds: &[u8], lens: &[u32], table: &mut [u32]) ->
     any_body(t, kinds, lens, table)
 }
 
-// struct_body, tuple_body or empty_body of grammar.rs, as the next token says.
+// item_struct (348), item_enum (405): the body that the next token asks for. An empty one is empty_body (441).
 fn any_body(tape: Tape, kinds: &[u8], lens: &[u32], table: &mut [u32]) -> Tape
     requires { ⌜ Ready tape (now kinds) (now lens) (now table) ⌝ }
     ensures { λ r. ⌜ Ran any-body tt tape r (now (kinds .entry)) (now (lens .entry)) (now (table .entry)) (now (table .exit)) ⌝ }
@@ -53,11 +39,12 @@ fn any_body(tape: Tape, kinds: &[u8], lens: &[u32], table: &mut [u32]) -> Tape
     tape.empty(EMPTY_BODY, kinds, lens, table)
 }
 
+// struct_body (448), tuple_body (466).
 fn field_body(tape: Tape, end: u8, kind: u8, kinds: &[u8], lens: &[u32], table: &mut [u32]) -> Tape
     requires { ⌜ Ready tape (now kinds) (now lens) (now table) ⌝ }
     ensures { λ r. ⌜ Ran (field-body end kind) tt tape r (now (kinds .entry)) (now (lens .entry)) (now (table .entry)) (now (table .exit)) ⌝ }
 {
-    let mut t = tape.flush_ws(kinds, lens, table);
+    let mut t = tape.mark(kinds, lens, table);
     if t.no != 0 {
         return t;
     }
@@ -77,6 +64,7 @@ fn field_body(tape: Tape, end: u8, kind: u8, kinds: &[u8], lens: &[u32], table: 
     t.close_at(c, kind, kinds, lens, table)
 }
 
+// struct_body, tuple_body: their loop.
 fn fields(tape: Tape, kinds: &[u8], lens: &[u32], table: &mut [u32]) -> Tape
     requires { ⌜ Ready tape (now kinds) (now lens) (now table) ⌝ }
     ensures { λ r. ⌜ Ran fieldsProg tt tape r (now (kinds .entry)) (now (lens .entry)) (now (table .entry)) (now (table .exit)) ⌝ }
@@ -91,6 +79,7 @@ fn fields(tape: Tape, kinds: &[u8], lens: &[u32], table: &mut [u32]) -> Tape
     t
 }
 
+// struct_body, tuple_body: a turn of the loop.
 fn field(tape: Tape, kinds: &[u8], lens: &[u32], table: &mut [u32]) -> Tape
     requires { ⌜ Ready tape (now kinds) (now lens) (now table) ⌝ }
     ensures { λ r. ⌜ Ran fieldProg tt tape r (now (kinds .entry)) (now (lens .entry)) (now (table .entry)) (now (table .exit)) ⌝ }
@@ -102,7 +91,7 @@ fn field(tape: Tape, kinds: &[u8], lens: &[u32], table: &mut [u32]) -> Tape
     t.bump_while(COMMA, kinds, lens, table)
 }
 
-// item_enum of grammar.rs
+// item_enum (405).
 pub fn item_enum(tape: Tape, kinds: &[u8], lens: &[u32], table: &mut [u32]) -> Tape
     requires { ⌜ Ready tape (now kinds) (now lens) (now table) ⌝ }
     ensures { λ r. ⌜ Ran item-enum tt tape r (now (kinds .entry)) (now (lens .entry)) (now (table .entry)) (now (table .exit)) ⌝ }
@@ -118,6 +107,7 @@ pub fn item_enum(tape: Tape, kinds: &[u8], lens: &[u32], table: &mut [u32]) -> T
     enum_body(t, kinds, lens, table)
 }
 
+// item_enum (405): behind `{`.
 fn enum_body(tape: Tape, kinds: &[u8], lens: &[u32], table: &mut [u32]) -> Tape
     requires { ⌜ Ready tape (now kinds) (now lens) (now table) ⌝ }
     ensures { λ r. ⌜ Ran enum-body tt tape r (now (kinds .entry)) (now (lens .entry)) (now (table .entry)) (now (table .exit)) ⌝ }
@@ -136,6 +126,7 @@ fn enum_body(tape: Tape, kinds: &[u8], lens: &[u32], table: &mut [u32]) -> Tape
     t
 }
 
+// item_enum (405): its loop.
 fn variants(tape: Tape, kinds: &[u8], lens: &[u32], table: &mut [u32]) -> Tape
     requires { ⌜ Ready tape (now kinds) (now lens) (now table) ⌝ }
     ensures { λ r. ⌜ Ran variantsProg tt tape r (now (kinds .entry)) (now (lens .entry)) (now (table .entry)) (now (table .exit)) ⌝ }
@@ -150,6 +141,7 @@ fn variants(tape: Tape, kinds: &[u8], lens: &[u32], table: &mut [u32]) -> Tape
     t
 }
 
+// item_enum (405): a turn of its loop.
 fn variant(tape: Tape, kinds: &[u8], lens: &[u32], table: &mut [u32]) -> Tape
     requires { ⌜ Ready tape (now kinds) (now lens) (now table) ⌝ }
     ensures { λ r. ⌜ Ran variantProg tt tape r (now (kinds .entry)) (now (lens .entry)) (now (table .entry)) (now (table .exit)) ⌝ }
@@ -161,11 +153,12 @@ fn variant(tape: Tape, kinds: &[u8], lens: &[u32], table: &mut [u32]) -> Tape
     t.bump_while(COMMA, kinds, lens, table)
 }
 
+// item_enum (405): a variant.
 fn variant_item(tape: Tape, kinds: &[u8], lens: &[u32], table: &mut [u32]) -> Tape
     requires { ⌜ Ready tape (now kinds) (now lens) (now table) ⌝ }
     ensures { λ r. ⌜ Ran variant-item tt tape r (now (kinds .entry)) (now (lens .entry)) (now (table .entry)) (now (table .exit)) ⌝ }
 {
-    let mut t = tape.flush_ws(kinds, lens, table);
+    let mut t = tape.mark(kinds, lens, table);
     if t.no != 0 {
         return t;
     }
@@ -181,7 +174,7 @@ fn variant_item(tape: Tape, kinds: &[u8], lens: &[u32], table: &mut [u32]) -> Ta
     t.close_at(c, VARIANT, kinds, lens, table)
 }
 
-// item_use of grammar.rs: counted.
+// item_use (371): counted.
 pub fn item_use(tape: Tape, kinds: &[u8], lens: &[u32], table: &mut [u32]) -> Tape
     requires { ⌜ Ready tape (now kinds) (now lens) (now table) ⌝ }
     ensures { λ r. ⌜ Ran itemUse tt tape r (now (kinds .entry)) (now (lens .entry)) (now (table .entry)) (now (table .exit)) ⌝ }
@@ -192,14 +185,15 @@ pub fn item_use(tape: Tape, kinds: &[u8], lens: &[u32], table: &mut [u32]) -> Ta
     }
     let mut t = tape;
     t.left = left - 1;
-    t = item_use_body(t, kinds, lens, table);
+    t = item_use_text(t, kinds, lens, table);
     t.left = left;
     t
 }
 
-fn item_use_body(tape: Tape, kinds: &[u8], lens: &[u32], table: &mut [u32]) -> Tape
+// item_use (371).
+fn item_use_text(tape: Tape, kinds: &[u8], lens: &[u32], table: &mut [u32]) -> Tape
     requires { ⌜ Ready tape (now kinds) (now lens) (now table) ⌝ }
-    ensures { λ r. ⌜ Ran itemUseBody tt tape r (now (kinds .entry)) (now (lens .entry)) (now (table .entry)) (now (table .exit)) ⌝ }
+    ensures { λ r. ⌜ Ran itemUseText tt tape r (now (kinds .entry)) (now (lens .entry)) (now (table .entry)) (now (table .exit)) ⌝ }
 {
     let t = tape.bump(kinds, lens, table);
     if t.no != 0 {
@@ -208,6 +202,7 @@ fn item_use_body(tape: Tape, kinds: &[u8], lens: &[u32], table: &mut [u32]) -> T
     use_parts(t, kinds, lens, table)
 }
 
+// item_use (371): its loop.
 fn use_parts(tape: Tape, kinds: &[u8], lens: &[u32], table: &mut [u32]) -> Tape
     requires { ⌜ Ready tape (now kinds) (now lens) (now table) ⌝ }
     ensures { λ r. ⌜ Ran useParts tt tape r (now (kinds .entry)) (now (lens .entry)) (now (table .entry)) (now (table .exit)) ⌝ }
@@ -244,11 +239,12 @@ fn use_parts(tape: Tape, kinds: &[u8], lens: &[u32], table: &mut [u32]) -> Tape
     }
 }
 
+// item_use (371): the case of `{`.
 fn use_group(tape: Tape, kinds: &[u8], lens: &[u32], table: &mut [u32]) -> Tape
     requires { ⌜ Ready tape (now kinds) (now lens) (now table) ⌝ }
     ensures { λ r. ⌜ Ran useGroup tt tape r (now (kinds .entry)) (now (lens .entry)) (now (table .entry)) (now (table .exit)) ⌝ }
 {
-    let mut t = tape.flush_ws(kinds, lens, table);
+    let mut t = tape.mark(kinds, lens, table);
     if t.no != 0 {
         return t;
     }
@@ -268,6 +264,7 @@ fn use_group(tape: Tape, kinds: &[u8], lens: &[u32], table: &mut [u32]) -> Tape
     t.close_at(c, ITEM_USE_GROUP, kinds, lens, table)
 }
 
+// item_use (371): the loop in a group.
 fn use_paths(tape: Tape, kinds: &[u8], lens: &[u32], table: &mut [u32]) -> Tape
     requires { ⌜ Ready tape (now kinds) (now lens) (now table) ⌝ }
     ensures { λ r. ⌜ Ran usePaths tt tape r (now (kinds .entry)) (now (lens .entry)) (now (table .entry)) (now (table .exit)) ⌝ }
@@ -282,6 +279,7 @@ fn use_paths(tape: Tape, kinds: &[u8], lens: &[u32], table: &mut [u32]) -> Tape
     t
 }
 
+// item_use (371): a turn of the loop in a group.
 fn use_path(tape: Tape, kinds: &[u8], lens: &[u32], table: &mut [u32]) -> Tape
     requires { ⌜ Ready tape (now kinds) (now lens) (now table) ⌝ }
     ensures { λ r. ⌜ Ran usePath tt tape r (now (kinds .entry)) (now (lens .entry)) (now (table .entry)) (now (table .exit)) ⌝ }
@@ -293,11 +291,12 @@ fn use_path(tape: Tape, kinds: &[u8], lens: &[u32], table: &mut [u32]) -> Tape
     t.bump_while(COMMA, kinds, lens, table)
 }
 
+// item_use (371): it enters itself.
 fn use_item(tape: Tape, kinds: &[u8], lens: &[u32], table: &mut [u32]) -> Tape
     requires { ⌜ Ready tape (now kinds) (now lens) (now table) ⌝ }
     ensures { λ r. ⌜ Ran useItem tt tape r (now (kinds .entry)) (now (lens .entry)) (now (table .entry)) (now (table .exit)) ⌝ }
 {
-    let mut t = tape.flush_ws(kinds, lens, table);
+    let mut t = tape.mark(kinds, lens, table);
     if t.no != 0 {
         return t;
     }
@@ -309,7 +308,7 @@ fn use_item(tape: Tape, kinds: &[u8], lens: &[u32], table: &mut [u32]) -> Tape
     t.close_at(c, ITEM_USE_PATH, kinds, lens, table)
 }
 
-// The arguments of item_fn.
+// item_fn (484): its arguments, if they are there.
 pub fn fn_args(tape: Tape, kinds: &[u8], lens: &[u32], table: &mut [u32]) -> Tape
     requires { ⌜ Ready tape (now kinds) (now lens) (now table) ⌝ }
     ensures { λ r. ⌜ Ran fn-args tt tape r (now (kinds .entry)) (now (lens .entry)) (now (table .entry)) (now (table .exit)) ⌝ }
@@ -320,11 +319,12 @@ pub fn fn_args(tape: Tape, kinds: &[u8], lens: &[u32], table: &mut [u32]) -> Tap
     tape
 }
 
+// item_fn (484): its arguments.
 fn fn_arg_list(tape: Tape, kinds: &[u8], lens: &[u32], table: &mut [u32]) -> Tape
     requires { ⌜ Ready tape (now kinds) (now lens) (now table) ⌝ }
     ensures { λ r. ⌜ Ran fn-arg-list tt tape r (now (kinds .entry)) (now (lens .entry)) (now (table .entry)) (now (table .exit)) ⌝ }
 {
-    let mut t = tape.flush_ws(kinds, lens, table);
+    let mut t = tape.mark(kinds, lens, table);
     if t.no != 0 {
         return t;
     }
@@ -348,7 +348,7 @@ fn fn_arg_list(tape: Tape, kinds: &[u8], lens: &[u32], table: &mut [u32]) -> Tap
     t.close_at(c, FN_ARGS, kinds, lens, table)
 }
 
-// The path of item_impl.
+// item_impl (514): its path, if it is there.
 pub fn impl_path(tape: Tape, kinds: &[u8], lens: &[u32], table: &mut [u32]) -> Tape
     requires { ⌜ Ready tape (now kinds) (now lens) (now table) ⌝ }
     ensures { λ r. ⌜ Ran impl-path tt tape r (now (kinds .entry)) (now (lens .entry)) (now (table .entry)) (now (table .exit)) ⌝ }

@@ -1,33 +1,12 @@
-// Paths and modifiers: paths.rt.
+// Paths and modifiers. Each function is a rule of grammar.rs or a part of one: its Rust name and line stand above it.
 ghost use mathlib.Core.Path.{_≡_};
 ghost use Prim.Native.Nat.{_<_};
-ghost use Rattle.definition.specs.Grammar.{path as pathProg, path-body as pathBody, path-segments as pathSegments, path-segment as pathSegment, generics-all as genericsAll, generics as genericsProg, generic-paths as genericPaths, generic-path as genericPath, modifier-kind, modifier-paren, modifier-pub, modifiers as modifiersProg};
+ghost use Rattle.definition.specs.Grammar.{path as pathProg, path-text as pathText, path-segments as pathSegments, path-segment as pathSegment, generics-all as genericsAll, generics as genericsProg, generic-paths as genericPaths, generic-path as genericPath, modifier-kind, modifier-paren, modifier-pub, modifiers as modifiersProg};
 ghost use Rattle.tape.specs.View.{said, Ready, Marked, Step, Ran};
-use kinds::ASYNC;
-use kinds::COLON_COLON;
-use kinds::COMMA;
-use kinds::CONST;
-use kinds::CRATE;
-use kinds::ERROR;
-use kinds::GT;
-use kinds::IN;
-use kinds::LT;
-use kinds::MODIFIER_CRATE;
-use kinds::MODIFIER_IN;
-use kinds::MODIFIER_SELF;
-use kinds::MODIFIER_SUPER;
-use kinds::MODIFIERS;
-use kinds::MOVE;
-use kinds::PAREN;
-use kinds::PAREN_END;
-use kinds::PATH;
-use kinds::PATH_GENERICS;
-use kinds::PUB;
-use kinds::SELF_VALUE;
-use kinds::SUPER;
+use kinds::*;
 use tape::Tape;
 
-// path of grammar.rs: counted.
+// path (1220): counted.
 pub fn path(tape: Tape, kinds: &[u8], lens: &[u32], table: &mut [u32]) -> Tape
     requires { ⌜ Ready tape (now kinds) (now lens) (now table) ⌝ }
     ensures { λ r. ⌜ Ran pathProg tt tape r (now (kinds .entry)) (now (lens .entry)) (now (table .entry)) (now (table .exit)) ⌝ }
@@ -38,16 +17,17 @@ pub fn path(tape: Tape, kinds: &[u8], lens: &[u32], table: &mut [u32]) -> Tape
     }
     let mut t = tape;
     t.left = left - 1;
-    t = path_body(t, kinds, lens, table);
+    t = path_text(t, kinds, lens, table);
     t.left = left;
     t
 }
 
-fn path_body(tape: Tape, kinds: &[u8], lens: &[u32], table: &mut [u32]) -> Tape
+// path (1220).
+fn path_text(tape: Tape, kinds: &[u8], lens: &[u32], table: &mut [u32]) -> Tape
     requires { ⌜ Ready tape (now kinds) (now lens) (now table) ⌝ }
-    ensures { λ r. ⌜ Ran pathBody tt tape r (now (kinds .entry)) (now (lens .entry)) (now (table .entry)) (now (table .exit)) ⌝ }
+    ensures { λ r. ⌜ Ran pathText tt tape r (now (kinds .entry)) (now (lens .entry)) (now (table .entry)) (now (table .exit)) ⌝ }
 {
-    let mut t = tape.flush_ws(kinds, lens, table);
+    let mut t = tape.mark(kinds, lens, table);
     if t.no != 0 {
         return t;
     }
@@ -59,6 +39,7 @@ fn path_body(tape: Tape, kinds: &[u8], lens: &[u32], table: &mut [u32]) -> Tape
     t.close_at(c, PATH, kinds, lens, table)
 }
 
+// path (1220): its loop.
 fn path_segments(tape: Tape, kinds: &[u8], lens: &[u32], table: &mut [u32]) -> Tape
     requires { ⌜ Ready tape (now kinds) (now lens) (now table) ⌝ }
     ensures { λ r. ⌜ Ran pathSegments tt tape r (now (kinds .entry)) (now (lens .entry)) (now (table .entry)) (now (table .exit)) ⌝ }
@@ -73,6 +54,7 @@ fn path_segments(tape: Tape, kinds: &[u8], lens: &[u32], table: &mut [u32]) -> T
     t
 }
 
+// path (1220): a turn of its loop.
 fn path_segment(tape: Tape, kinds: &[u8], lens: &[u32], table: &mut [u32]) -> Tape
     requires { ⌜ Ready tape (now kinds) (now lens) (now table) ⌝ }
     ensures { λ r. ⌜ Ran pathSegment tt tape r (now (kinds .entry)) (now (lens .entry)) (now (table .entry)) (now (table .exit)) ⌝ }
@@ -88,6 +70,7 @@ fn path_segment(tape: Tape, kinds: &[u8], lens: &[u32], table: &mut [u32]) -> Ta
     t
 }
 
+// path (1220): the loop behind `::`.
 fn generics_all(tape: Tape, kinds: &[u8], lens: &[u32], table: &mut [u32]) -> Tape
     requires { ⌜ Ready tape (now kinds) (now lens) (now table) ⌝ }
     ensures { λ r. ⌜ Ran genericsAll tt tape r (now (kinds .entry)) (now (lens .entry)) (now (table .entry)) (now (table .exit)) ⌝ }
@@ -102,11 +85,12 @@ fn generics_all(tape: Tape, kinds: &[u8], lens: &[u32], table: &mut [u32]) -> Ta
     t
 }
 
+// path (1220): a turn of that loop.
 fn generics(tape: Tape, kinds: &[u8], lens: &[u32], table: &mut [u32]) -> Tape
     requires { ⌜ Ready tape (now kinds) (now lens) (now table) ⌝ }
     ensures { λ r. ⌜ Ran genericsProg tt tape r (now (kinds .entry)) (now (lens .entry)) (now (table .entry)) (now (table .exit)) ⌝ }
 {
-    let mut t = tape.flush_ws(kinds, lens, table);
+    let mut t = tape.mark(kinds, lens, table);
     if t.no != 0 {
         return t;
     }
@@ -126,6 +110,7 @@ fn generics(tape: Tape, kinds: &[u8], lens: &[u32], table: &mut [u32]) -> Tape
     t.close_at(c, PATH_GENERICS, kinds, lens, table)
 }
 
+// path (1220): the loop behind `<`.
 fn generic_paths(tape: Tape, kinds: &[u8], lens: &[u32], table: &mut [u32]) -> Tape
     requires { ⌜ Ready tape (now kinds) (now lens) (now table) ⌝ }
     ensures { λ r. ⌜ Ran genericPaths tt tape r (now (kinds .entry)) (now (lens .entry)) (now (table .entry)) (now (table .exit)) ⌝ }
@@ -140,6 +125,7 @@ fn generic_paths(tape: Tape, kinds: &[u8], lens: &[u32], table: &mut [u32]) -> T
     t
 }
 
+// path (1220): it enters itself.
 fn generic_path(tape: Tape, kinds: &[u8], lens: &[u32], table: &mut [u32]) -> Tape
     requires { ⌜ Ready tape (now kinds) (now lens) (now table) ⌝ }
     ensures { λ r. ⌜ Ran genericPath tt tape r (now (kinds .entry)) (now (lens .entry)) (now (table .entry)) (now (table .exit)) ⌝ }
@@ -151,7 +137,7 @@ fn generic_path(tape: Tape, kinds: &[u8], lens: &[u32], table: &mut [u32]) -> Ta
     t.bump_while(COMMA, kinds, lens, table)
 }
 
-// What stands in the parentheses after `pub`.
+// modifiers (271): what stands in the parentheses after `pub`; answers the kind.
 fn modifier_kind(tape: Tape, kinds: &[u8], lens: &[u32], table: &mut [u32]) -> Tape
     requires { ⌜ Ready tape (now kinds) (now lens) (now table) ⌝ }
     ensures { λ r. ⌜ Ran modifier-kind (r .ans) tape r (now (kinds .entry)) (now (lens .entry)) (now (table .entry)) (now (table .exit)) ⌝ }
@@ -198,11 +184,12 @@ fn modifier_kind(tape: Tape, kinds: &[u8], lens: &[u32], table: &mut [u32]) -> T
     t
 }
 
+// modifiers (271): the parentheses after `pub`.
 fn modifier_paren(tape: Tape, kinds: &[u8], lens: &[u32], table: &mut [u32]) -> Tape
     requires { ⌜ Ready tape (now kinds) (now lens) (now table) ⌝ }
     ensures { λ r. ⌜ Ran modifier-paren tt tape r (now (kinds .entry)) (now (lens .entry)) (now (table .entry)) (now (table .exit)) ⌝ }
 {
-    let mut t = tape.flush_ws(kinds, lens, table);
+    let mut t = tape.mark(kinds, lens, table);
     if t.no != 0 {
         return t;
     }
@@ -223,6 +210,7 @@ fn modifier_paren(tape: Tape, kinds: &[u8], lens: &[u32], table: &mut [u32]) -> 
     t.close_at(c, kind, kinds, lens, table)
 }
 
+// modifiers (271): the case of `pub`.
 fn modifier_pub(tape: Tape, kinds: &[u8], lens: &[u32], table: &mut [u32]) -> Tape
     requires { ⌜ Ready tape (now kinds) (now lens) (now table) ⌝ }
     ensures { λ r. ⌜ Ran modifier-pub tt tape r (now (kinds .entry)) (now (lens .entry)) (now (table .entry)) (now (table .exit)) ⌝ }
@@ -237,12 +225,12 @@ fn modifier_pub(tape: Tape, kinds: &[u8], lens: &[u32], table: &mut [u32]) -> Ta
     t
 }
 
-// modifiers of grammar.rs: whether `const` is among them.
+// modifiers (271): answers whether `const` is among them.
 pub fn modifiers(tape: Tape, kinds: &[u8], lens: &[u32], table: &mut [u32]) -> Tape
     requires { ⌜ Ready tape (now kinds) (now lens) (now table) ⌝ }
     ensures { λ r. ⌜ Ran modifiersProg (said r) tape r (now (kinds .entry)) (now (lens .entry)) (now (table .entry)) (now (table .exit)) ⌝ }
 {
-    let mut t = tape.flush_ws(kinds, lens, table);
+    let mut t = tape.mark(kinds, lens, table);
     if t.no != 0 {
         return t;
     }
@@ -291,17 +279,7 @@ pub fn modifiers(tape: Tape, kinds: &[u8], lens: &[u32], table: &mut [u32]) -> T
         if t.no != 0 {
             return t;
         }
-        if is_const {
-            t.ans = 1;
-            return t;
-        }
-        t.ans = 0;
-        return t;
+        return t.say(is_const);
     }
-    if is_const {
-        t.ans = 1;
-        return t;
-    }
-    t.ans = 0;
-    t
+    t.say(is_const)
 }

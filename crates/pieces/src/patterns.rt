@@ -1,34 +1,14 @@
-// Patterns: patterns.rt.
+// Patterns. Each function is a rule of grammar.rs or a part of one: its Rust name and line stand above it.
 ghost use mathlib.Core.Path.{_≡_};
 ghost use Prim.Native.Nat.{_<_};
-ghost use Rattle.definition.specs.Grammar.{pat as patProg, pat-body as patBody, pat-kind as patKind, pat-negative as patNegative, pat-path as patPath, pat-group as patGroup, pat-anonymous as patAnonymous, pat-parens as patParens, pat-items as patItems, pat-item as patItem, pat-or-rest as patOrRest, pat-object as patObject, pat-object-items as patObjectItems, pat-object-key as patObjectKey, pat-value as patValue, pat-list as patList};
+ghost use Rattle.definition.specs.Grammar.{pat as patProg, pat-text as patText, pat-kind as patKind, pat-negative as patNegative, pat-path as patPath, pat-group as patGroup, pat-anonymous as patAnonymous, pat-parens as patParens, pat-items as patItems, pat-item as patItem, pat-or-rest as patOrRest, pat-object as patObject, pat-object-items as patObjectItems, pat-object-key as patObjectKey, pat-value as patValue, pat-list as patList};
 ghost use Rattle.tape.specs.View.{said, Ready, Marked, Step, Ran};
 use super::paths;
 use super::streams;
-use kinds::ANONYMOUS_OBJECT_KEY;
-use kinds::BRACE;
-use kinds::BRACE_END;
-use kinds::BRACKET;
-use kinds::BRACKET_END;
-use kinds::COLON;
-use kinds::COMMA;
-use kinds::DASH;
-use kinds::DOT_DOT;
-use kinds::ERROR;
-use kinds::LIT;
-use kinds::NUMBER;
-use kinds::PAREN;
-use kinds::PAREN_END;
-use kinds::PAT;
-use kinds::PAT_ARRAY;
-use kinds::PAT_IGNORE;
-use kinds::PAT_OBJECT;
-use kinds::PAT_TUPLE;
-use kinds::POUND;
-use kinds::UNDERSCORE;
+use kinds::*;
 use tape::Tape;
 
-// pat of grammar.rs: counted.
+// pat (556): counted.
 pub fn pat(tape: Tape, kinds: &[u8], lens: &[u32], table: &mut [u32]) -> Tape
     requires { ⌜ Ready tape (now kinds) (now lens) (now table) ⌝ }
     ensures { λ r. ⌜ Ran patProg tt tape r (now (kinds .entry)) (now (lens .entry)) (now (table .entry)) (now (table .exit)) ⌝ }
@@ -39,16 +19,17 @@ pub fn pat(tape: Tape, kinds: &[u8], lens: &[u32], table: &mut [u32]) -> Tape
     }
     let mut t = tape;
     t.left = left - 1;
-    t = pat_body(t, kinds, lens, table);
+    t = pat_text(t, kinds, lens, table);
     t.left = left;
     t
 }
 
-fn pat_body(tape: Tape, kinds: &[u8], lens: &[u32], table: &mut [u32]) -> Tape
+// pat (556).
+fn pat_text(tape: Tape, kinds: &[u8], lens: &[u32], table: &mut [u32]) -> Tape
     requires { ⌜ Ready tape (now kinds) (now lens) (now table) ⌝ }
-    ensures { λ r. ⌜ Ran patBody tt tape r (now (kinds .entry)) (now (lens .entry)) (now (table .entry)) (now (table .exit)) ⌝ }
+    ensures { λ r. ⌜ Ran patText tt tape r (now (kinds .entry)) (now (lens .entry)) (now (table .entry)) (now (table .exit)) ⌝ }
 {
-    let mut t = tape.flush_ws(kinds, lens, table);
+    let mut t = tape.mark(kinds, lens, table);
     if t.no != 0 {
         return t;
     }
@@ -66,6 +47,7 @@ fn pat_body(tape: Tape, kinds: &[u8], lens: &[u32], table: &mut [u32]) -> Tape
     t.close_at(c, PAT, kinds, lens, table)
 }
 
+// pat (556): its `match`.
 fn pat_kind(tape: Tape, k: u8, g: u8, kinds: &[u8], lens: &[u32], table: &mut [u32]) -> Tape
     requires { ⌜ Ready tape (now kinds) (now lens) (now table) ⌝ }
     ensures { λ r. ⌜ Ran (patKind k g) tt tape r (now (kinds .entry)) (now (lens .entry)) (now (table .entry)) (now (table .exit)) ⌝ }
@@ -94,12 +76,12 @@ fn pat_kind(tape: Tape, k: u8, g: u8, kinds: &[u8], lens: &[u32], table: &mut [u
     tape.empty(ERROR, kinds, lens, table)
 }
 
-// `-`, and the number that may follow, glued or not.
+// pat (556): `-`, and the number that may follow, glued or not.
 fn pat_negative(tape: Tape, kinds: &[u8], lens: &[u32], table: &mut [u32]) -> Tape
     requires { ⌜ Ready tape (now kinds) (now lens) (now table) ⌝ }
     ensures { λ r. ⌜ Ran patNegative tt tape r (now (kinds .entry)) (now (lens .entry)) (now (table .entry)) (now (table .exit)) ⌝ }
 {
-    let mut t = tape.flush_ws(kinds, lens, table);
+    let mut t = tape.mark(kinds, lens, table);
     if t.no != 0 {
         return t;
     }
@@ -115,11 +97,12 @@ fn pat_negative(tape: Tape, kinds: &[u8], lens: &[u32], table: &mut [u32]) -> Ta
     t.close_at(c, LIT, kinds, lens, table)
 }
 
+// pat (556): the case of a path.
 fn pat_path(tape: Tape, kinds: &[u8], lens: &[u32], table: &mut [u32]) -> Tape
     requires { ⌜ Ready tape (now kinds) (now lens) (now table) ⌝ }
     ensures { λ r. ⌜ Ran patPath tt tape r (now (kinds .entry)) (now (lens .entry)) (now (table .entry)) (now (table .exit)) ⌝ }
 {
-    let mut t = tape.flush_ws(kinds, lens, table);
+    let mut t = tape.mark(kinds, lens, table);
     if t.no != 0 {
         return t;
     }
@@ -146,11 +129,12 @@ fn pat_path(tape: Tape, kinds: &[u8], lens: &[u32], table: &mut [u32]) -> Tape
     t
 }
 
+// pat (556): the cases of `[` and `(`.
 fn pat_group(tape: Tape, end: u8, kind: u8, kinds: &[u8], lens: &[u32], table: &mut [u32]) -> Tape
     requires { ⌜ Ready tape (now kinds) (now lens) (now table) ⌝ }
     ensures { λ r. ⌜ Ran (patGroup end kind) tt tape r (now (kinds .entry)) (now (lens .entry)) (now (table .entry)) (now (table .exit)) ⌝ }
 {
-    let mut t = tape.flush_ws(kinds, lens, table);
+    let mut t = tape.mark(kinds, lens, table);
     if t.no != 0 {
         return t;
     }
@@ -162,11 +146,12 @@ fn pat_group(tape: Tape, end: u8, kind: u8, kinds: &[u8], lens: &[u32], table: &
     t.close_at(c, kind, kinds, lens, table)
 }
 
+// pat (556): the case of `#{`.
 fn pat_anonymous(tape: Tape, kinds: &[u8], lens: &[u32], table: &mut [u32]) -> Tape
     requires { ⌜ Ready tape (now kinds) (now lens) (now table) ⌝ }
     ensures { λ r. ⌜ Ran patAnonymous tt tape r (now (kinds .entry)) (now (lens .entry)) (now (table .entry)) (now (table .exit)) ⌝ }
 {
-    let mut t = tape.flush_ws(kinds, lens, table);
+    let mut t = tape.mark(kinds, lens, table);
     if t.no != 0 {
         return t;
     }
@@ -186,7 +171,7 @@ fn pat_anonymous(tape: Tape, kinds: &[u8], lens: &[u32], table: &mut [u32]) -> T
     t.close_at(c, PAT_OBJECT, kinds, lens, table)
 }
 
-// pat_parens of grammar.rs
+// pat_parens (1363).
 fn pat_parens(tape: Tape, end: u8, kinds: &[u8], lens: &[u32], table: &mut [u32]) -> Tape
     requires { ⌜ Ready tape (now kinds) (now lens) (now table) ⌝ }
     ensures { λ r. ⌜ Ran (patParens end) tt tape r (now (kinds .entry)) (now (lens .entry)) (now (table .entry)) (now (table .exit)) ⌝ }
@@ -202,6 +187,7 @@ fn pat_parens(tape: Tape, end: u8, kinds: &[u8], lens: &[u32], table: &mut [u32]
     t.bump_if(end, kinds, lens, table)
 }
 
+// pat_parens (1363): its loop.
 fn pat_items(tape: Tape, kinds: &[u8], lens: &[u32], table: &mut [u32]) -> Tape
     requires { ⌜ Ready tape (now kinds) (now lens) (now table) ⌝ }
     ensures { λ r. ⌜ Ran patItems tt tape r (now (kinds .entry)) (now (lens .entry)) (now (table .entry)) (now (table .exit)) ⌝ }
@@ -216,6 +202,7 @@ fn pat_items(tape: Tape, kinds: &[u8], lens: &[u32], table: &mut [u32]) -> Tape
     t
 }
 
+// pat_parens (1363): a turn of its loop.
 fn pat_item(tape: Tape, kinds: &[u8], lens: &[u32], table: &mut [u32]) -> Tape
     requires { ⌜ Ready tape (now kinds) (now lens) (now table) ⌝ }
     ensures { λ r. ⌜ Ran patItem tt tape r (now (kinds .entry)) (now (lens .entry)) (now (table .entry)) (now (table .exit)) ⌝ }
@@ -227,6 +214,7 @@ fn pat_item(tape: Tape, kinds: &[u8], lens: &[u32], table: &mut [u32]) -> Tape
     t.bump_while(COMMA, kinds, lens, table)
 }
 
+// pat_parens (1363): its `match`.
 fn pat_or_rest(tape: Tape, kinds: &[u8], lens: &[u32], table: &mut [u32]) -> Tape
     requires { ⌜ Ready tape (now kinds) (now lens) (now table) ⌝ }
     ensures { λ r. ⌜ Ran patOrRest tt tape r (now (kinds .entry)) (now (lens .entry)) (now (table .entry)) (now (table .exit)) ⌝ }
@@ -237,7 +225,7 @@ fn pat_or_rest(tape: Tape, kinds: &[u8], lens: &[u32], table: &mut [u32]) -> Tap
     pat(tape, kinds, lens, table)
 }
 
-// pat_object of grammar.rs
+// pat_object (1043).
 fn pat_object(tape: Tape, kinds: &[u8], lens: &[u32], table: &mut [u32]) -> Tape
     requires { ⌜ Ready tape (now kinds) (now lens) (now table) ⌝ }
     ensures { λ r. ⌜ Ran patObject tt tape r (now (kinds .entry)) (now (lens .entry)) (now (table .entry)) (now (table .exit)) ⌝ }
@@ -253,6 +241,7 @@ fn pat_object(tape: Tape, kinds: &[u8], lens: &[u32], table: &mut [u32]) -> Tape
     t.bump_if(BRACE_END, kinds, lens, table)
 }
 
+// pat_object (1043): its loop.
 fn pat_object_items(tape: Tape, kinds: &[u8], lens: &[u32], table: &mut [u32]) -> Tape
     requires { ⌜ Ready tape (now kinds) (now lens) (now table) ⌝ }
     ensures { λ r. ⌜ Ran patObjectItems tt tape r (now (kinds .entry)) (now (lens .entry)) (now (table .entry)) (now (table .exit)) ⌝ }
@@ -278,6 +267,7 @@ fn pat_object_items(tape: Tape, kinds: &[u8], lens: &[u32], table: &mut [u32]) -
     }
 }
 
+// pat_object (1043): the case of a key.
 fn pat_object_key(tape: Tape, kinds: &[u8], lens: &[u32], table: &mut [u32]) -> Tape
     requires { ⌜ Ready tape (now kinds) (now lens) (now table) ⌝ }
     ensures { λ r. ⌜ Ran patObjectKey tt tape r (now (kinds .entry)) (now (lens .entry)) (now (table .entry)) (now (table .exit)) ⌝ }
@@ -293,6 +283,7 @@ fn pat_object_key(tape: Tape, kinds: &[u8], lens: &[u32], table: &mut [u32]) -> 
     t.bump_while(COMMA, kinds, lens, table)
 }
 
+// pat_object (1043): `:` and its pattern.
 fn pat_value(tape: Tape, kinds: &[u8], lens: &[u32], table: &mut [u32]) -> Tape
     requires { ⌜ Ready tape (now kinds) (now lens) (now table) ⌝ }
     ensures { λ r. ⌜ Ran patValue tt tape r (now (kinds .entry)) (now (lens .entry)) (now (table .entry)) (now (table .exit)) ⌝ }
@@ -307,7 +298,7 @@ fn pat_value(tape: Tape, kinds: &[u8], lens: &[u32], table: &mut [u32]) -> Tape
     t
 }
 
-// The patterns of a closure or a function: the loop of parenthesized.
+// item_fn (484), parenthesized (1384): the loop over patterns.
 pub fn pat_list(tape: Tape, kinds: &[u8], lens: &[u32], table: &mut [u32]) -> Tape
     requires { ⌜ Ready tape (now kinds) (now lens) (now table) ⌝ }
     ensures { λ r. ⌜ Ran patList tt tape r (now (kinds .entry)) (now (lens .entry)) (now (table .entry)) (now (table .exit)) ⌝ }

@@ -1,22 +1,14 @@
-// Token streams, attributes and labels: streams.rt.
+// Token streams, attributes and labels. Each function is a rule of grammar.rs or a part of one: its Rust name and line stand above it.
 ghost use mathlib.Core.Path.{_≡_};
 ghost use Prim.Native.Nat.{_<_};
 ghost use Rattle.definition.specs.Grammar.{stream as streamProg, token-stream, attribute-stream, inner-attribute, inner-attributes as innerAttributes, attribute as attributeProg, attributes as attributesProg, label as labelProg, labels as labelsProg};
 ghost use Rattle.tape.specs.View.{said, Ready, Marked, Step, Ran};
 ghost use Rattle.kinds.specs.Matchers.{matcherOf};
-use kinds::ATTRIBUTE;
-use kinds::BANG;
-use kinds::BRACKET;
-use kinds::COLON;
-use kinds::EOF;
-use kinds::INNER_ATTRIBUTE;
-use kinds::LABEL;
-use kinds::POUND;
-use kinds::TOKEN_STREAM;
 use kinds::matcher::Matcher;
+use kinds::*;
 use tape::Tape;
 
-// The loop of token_stream: to the bracket that closes. The end is seen before anything is written.
+// token_stream (1427): its loop, to the bracket that closes. The end is seen before anything is written.
 fn stream(tape: Tape, m: Matcher, kinds: &[u8], lens: &[u32], table: &mut [u32]) -> Tape
     requires { ⌜ Ready tape (now kinds) (now lens) (now table) ⌝ }
     ensures { λ r. ⌜ Ran (streamProg (matcherOf m)) tt tape r (now (kinds .entry)) (now (lens .entry)) (now (table .entry)) (now (table .exit)) ⌝ }
@@ -39,12 +31,12 @@ fn stream(tape: Tape, m: Matcher, kinds: &[u8], lens: &[u32], table: &mut [u32])
     }
 }
 
-// token_stream of grammar.rs
+// token_stream (1427).
 pub fn token_stream(tape: Tape, m: Matcher, kinds: &[u8], lens: &[u32], table: &mut [u32]) -> Tape
     requires { ⌜ Ready tape (now kinds) (now lens) (now table) ⌝ }
     ensures { λ r. ⌜ Ran (token-stream (matcherOf m)) tt tape r (now (kinds .entry)) (now (lens .entry)) (now (table .entry)) (now (table .exit)) ⌝ }
 {
-    let mut t = tape.flush_ws(kinds, lens, table);
+    let mut t = tape.mark(kinds, lens, table);
     if t.no != 0 {
         return t;
     }
@@ -56,7 +48,7 @@ pub fn token_stream(tape: Tape, m: Matcher, kinds: &[u8], lens: &[u32], table: &
     t.close_at(c, TOKEN_STREAM, kinds, lens, table)
 }
 
-// The tokens of an attribute, if its `[` is there.
+// attributes (253), inner_attributes (234): the tokens of one, if its `[` is there.
 fn attribute_stream(tape: Tape, kinds: &[u8], lens: &[u32], table: &mut [u32]) -> Tape
     requires { ⌜ Ready tape (now kinds) (now lens) (now table) ⌝ }
     ensures { λ r. ⌜ Ran attribute-stream tt tape r (now (kinds .entry)) (now (lens .entry)) (now (table .entry)) (now (table .exit)) ⌝ }
@@ -75,11 +67,12 @@ fn attribute_stream(tape: Tape, kinds: &[u8], lens: &[u32], table: &mut [u32]) -
     t
 }
 
+// inner_attributes (234): a turn of its loop.
 fn inner_attribute(tape: Tape, kinds: &[u8], lens: &[u32], table: &mut [u32]) -> Tape
     requires { ⌜ Ready tape (now kinds) (now lens) (now table) ⌝ }
     ensures { λ r. ⌜ Ran inner-attribute tt tape r (now (kinds .entry)) (now (lens .entry)) (now (table .entry)) (now (table .exit)) ⌝ }
 {
-    let mut t = tape.flush_ws(kinds, lens, table);
+    let mut t = tape.mark(kinds, lens, table);
     if t.no != 0 {
         return t;
     }
@@ -99,7 +92,7 @@ fn inner_attribute(tape: Tape, kinds: &[u8], lens: &[u32], table: &mut [u32]) ->
     t.close_at(c, INNER_ATTRIBUTE, kinds, lens, table)
 }
 
-// inner_attributes of grammar.rs
+// inner_attributes (234).
 pub fn inner_attributes(tape: Tape, kinds: &[u8], lens: &[u32], table: &mut [u32]) -> Tape
     requires { ⌜ Ready tape (now kinds) (now lens) (now table) ⌝ }
     ensures { λ r. ⌜ Ran innerAttributes tt tape r (now (kinds .entry)) (now (lens .entry)) (now (table .entry)) (now (table .exit)) ⌝ }
@@ -114,11 +107,12 @@ pub fn inner_attributes(tape: Tape, kinds: &[u8], lens: &[u32], table: &mut [u32
     t
 }
 
+// attributes (253): a turn of its loop.
 fn attribute(tape: Tape, kinds: &[u8], lens: &[u32], table: &mut [u32]) -> Tape
     requires { ⌜ Ready tape (now kinds) (now lens) (now table) ⌝ }
     ensures { λ r. ⌜ Ran attributeProg tt tape r (now (kinds .entry)) (now (lens .entry)) (now (table .entry)) (now (table .exit)) ⌝ }
 {
-    let mut t = tape.flush_ws(kinds, lens, table);
+    let mut t = tape.mark(kinds, lens, table);
     if t.no != 0 {
         return t;
     }
@@ -134,7 +128,7 @@ fn attribute(tape: Tape, kinds: &[u8], lens: &[u32], table: &mut [u32]) -> Tape
     t.close_at(c, ATTRIBUTE, kinds, lens, table)
 }
 
-// attributes of grammar.rs
+// attributes (253).
 pub fn attributes(tape: Tape, kinds: &[u8], lens: &[u32], table: &mut [u32]) -> Tape
     requires { ⌜ Ready tape (now kinds) (now lens) (now table) ⌝ }
     ensures { λ r. ⌜ Ran attributesProg tt tape r (now (kinds .entry)) (now (lens .entry)) (now (table .entry)) (now (table .exit)) ⌝ }
@@ -149,6 +143,7 @@ pub fn attributes(tape: Tape, kinds: &[u8], lens: &[u32], table: &mut [u32]) -> 
     t
 }
 
+// labels (746): a turn of its loop.
 fn label(tape: Tape, kinds: &[u8], lens: &[u32], table: &mut [u32]) -> Tape
     requires { ⌜ Ready tape (now kinds) (now lens) (now table) ⌝ }
     ensures { λ r. ⌜ Ran labelProg tt tape r (now (kinds .entry)) (now (lens .entry)) (now (table .entry)) (now (table .exit)) ⌝ }
@@ -160,7 +155,7 @@ fn label(tape: Tape, kinds: &[u8], lens: &[u32], table: &mut [u32]) -> Tape
     t.bump_while(COLON, kinds, lens, table)
 }
 
-// labels of grammar.rs
+// labels (746).
 pub fn labels(tape: Tape, kinds: &[u8], lens: &[u32], table: &mut [u32]) -> Tape
     requires { ⌜ Ready tape (now kinds) (now lens) (now table) ⌝ }
     ensures { λ r. ⌜ Ran labelsProg tt tape r (now (kinds .entry)) (now (lens .entry)) (now (table .entry)) (now (table .exit)) ⌝ }

@@ -9,9 +9,9 @@ use native.Mathlib.Nat.{min-le-left, min-le-right, mul-div-le}
 use lib.ListN.{length, length-drop, take, drop, getD}
 use lib.Seq.{sets, length-sets}
 use lib.Dec.{ltb}
-use borrow.Author.Tests.{lt-ltb, le-ltb}
+use borrow.Author.Tests.{lt-ltb, le-ltb, eq-eqb}
 use Rattle.definition.specs.Tape.{In, Row, State, Out, ok, refused, andThen, choose, guard, room, wroteLeaf, leafAt, leavesAt, hereAt, elements, capacity, startOf, leavesLen, nodeOver, wroteNode, closeAt, flushAt, bumpAt, triv}
-use Rattle.definition.specs.Prog.{Prog, eval, flush, bump, close}
+use Rattle.definition.specs.Prog.{Prog, mark, eval, flush, bump, close}
 use Rattle.definition.specs.Parse.{run}
 use Rattle.definition.specs.Grammar.{grammar}
 use Rattle.laws.specs.Kept.{After}
@@ -115,29 +115,29 @@ module _ {t : Tape} {ks ls tab : List ℕ} (g : Ready t ks ls tab) {c : ℕ} (b 
   pub close-wrote : (k st : ℕ) (r : Tape) (tab′ : List ℕ) → st ≡ startOf (drop c (rowsIn (t .rows) tab)) (t .byte) → t .rows < capacity (length tab) →
       tab′ ≡ sets tab (4 * t .rows) (k ∷ (t .rows - c) ∷ st ∷ (t .byte - st) ∷ []) →
       r ≡ record { at = t .at; next = t .next; second = t .second; byte = t .byte; rows = t .rows + 1; left = t .left; no = 0; place = 0; ans = 0 } →
-      Step c (close k) tt t r ks ls tab tab′
-  unfolding run eval closeAt guard pickOut wroteNode elements
+      Step c (close (mark c) k) tt t r ks ls tab tab′
+  unfolding run eval choose closeAt guard pickOut wroteNode elements
   close-wrote k st r tab′ e h w q =
       let row : Row = record { kind = k; back = t .rows - c; start = st; len = t .byte - st } in
-      let is : outOf (tt {0}) r tab′ ≡ run (inOf ks ls tab) (t .left) c (close k) (stateOf t tab) =
-      rw (q, has-room t ks ls tab h, w, rows-next row (t .rows) tab (in-table (t .rows) tab h), node-row k st e) in
+      let is : outOf (tt {0}) r tab′ ≡ run (inOf ks ls tab) (t .left) c (close (mark c) k) (stateOf t tab) =
+      rw (eq-eqb c c refl, q, has-room t ks ls tab h, w, rows-next row (t .rows) tab (in-table (t .rows) tab h), node-row k st e) in
       let len : length tab′ ≡ length tab = rw w (length-sets tab (4 * t .rows) (elements row)) in
       let looks : Looks r ks = rw q record { end = g .looks .end; few = g .looks .few; next = g .looks .next; second = g .looks .second } in
       record {
         is = is;
-        ready = λ z. record { going = z; sized = g .sized; looks = looks; fits = rw len (fits-then (inOf ks ls tab) c (stateOf t tab) (stateOf r tab′) _ tt (fits grammar (inOf ks ls tab) (t .left) c (close k) (stateOf t tab)) (sym is ∙ went-on (r .no) (r .place) tt (stateOf r tab′) z) (g .fits)) };
+        ready = λ z. record { going = z; sized = g .sized; looks = looks; fits = rw len (fits-then (inOf ks ls tab) c (stateOf t tab) (stateOf r tab′) _ tt (fits grammar (inOf ks ls tab) (t .left) c (close (mark c) k) (stateOf t tab)) (sym is ∙ went-on (r .no) (r .place) tt (stateOf r tab′) z) (g .fits)) };
         len = len;
         left = rw q;
       }
 
   pub close-full : (k : ℕ) (r : Tape) → capacity (length tab) ≤ t .rows →
       r ≡ record { at = t .at; next = t .next; second = t .second; byte = t .byte; rows = t .rows; left = t .left; no = 11; place = t .next; ans = 0 } →
-      Step c (close k) tt t r ks ls tab tab
-  unfolding run eval closeAt guard pickOut hereAt skipped
+      Step c (close (mark c) k) tt t r ks ls tab tab
+  unfolding run eval choose closeAt guard pickOut hereAt skipped
   close-full k r h q =
       rw q
       record {
-        is = rw (no-room t ks ls tab h) (ap (λ (x : ℕ). refused 11 x) (g .looks .next));
+        is = rw (eq-eqb c c refl, no-room t ks ls tab h) (ap (λ (x : ℕ). refused 11 x) (g .looks .next));
         ready = λ z. absurd (omega arith);
         len = refl;
         left = refl;

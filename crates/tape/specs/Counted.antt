@@ -1,6 +1,6 @@
 -- The counted rules: one entry less for the body, and as many as before on the way out. And progress, as the code's loops cite it.
 -- Assumes nothing.
-use Prim.Native.Nat.{ℕ, zero, suc, _+_, _-_, _<_}
+use Prim.Native.Nat.{ℕ, zero, suc, _+_, _-_}
 use mathlib.Core.Path.{_≡_, refl, ap, subst, sym, _∙_}
 use mathlib.Core.Bool.{Bool, true, false, cond}
 use mathlib.Core.List.{List}
@@ -8,15 +8,15 @@ use native.Mathlib.Omega.{arith}
 use lib.ListN.{length, drop, getD}
 use lib.Dec.{eqb}
 use Rattle.definition.specs.Kinds.{Eof}
-use Rattle.definition.specs.Tape.{In, State, Out, ok, refused, nthKind, nthAt, gluedKind, gluedAt, hereAt}
+use Rattle.definition.specs.Tape.{In, State, Out, refused, nthKind, nthAt, gluedKind, gluedAt, hereAt}
 use Rattle.definition.specs.Prog.{Prog, done, seq, enter, Rule, eval, call}
 use Rattle.definition.specs.Grammar.{grammar}
 use Rattle.definition.specs.Parse.{run}
 use Rattle.laws.specs.Kept.{After}
 use Rattle.laws.specs.Looking.{skipped}
 use Rattle.laws.specs.Progress.{Further}
-use Rattle.tape.specs.View.{inOf, stateOf, rowsIn, outOf, said, Ready, Step, Ran}
-use Rattle.tape.specs.Steps.{went-on, stopped, step-ok, step-went, refusing, refused-tape, Onward, both, cut, nothing}
+use Rattle.tape.specs.View.{inOf, stateOf, rowsIn, said, Ready, Step}
+use Rattle.tape.specs.Steps.{stopped, step-ok, step-went, refusing, refused-tape, Onward, both, cut, nothing}
 use Rattle.tape.specs.declared.Tape.{Tape}
 
 -- the tape with n entries left

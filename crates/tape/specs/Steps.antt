@@ -2,15 +2,15 @@
 -- Assumes nothing.
 use Prim.Native.Nat.{ℕ, zero, suc, _+_, _-_, _≤_, _<_}
 use mathlib.Core.Path.{_≡_, refl, ap, subst, sym, _∙_}
-use mathlib.Core.Bool.{Bool, true, false}
+use mathlib.Core.Bool.{Bool, true, false, cond}
 use mathlib.Core.Logic.{_⊎_, inl, inr}
-use mathlib.Core.List.{List, [], _∷_}
+use mathlib.Core.List.{List}
 use native.Mathlib.Omega.{arith}
 use lib.ListN.{length, drop, getD}
+use lib.Dec.{eqb}
 use borrow.Author.Tests.{lt-ltb}
-use Rattle.definition.specs.Kinds.{Eof}
-use Rattle.definition.specs.Tape.{In, State, Out, ok, refused, andThen, choose, guard, hereAt, nthAt, nthKind, gluedAt, gluedKind, flushAt, bumpAt, capacity}
-use Rattle.definition.specs.Prog.{Prog, done, seq, nth, glued, here, flush, bump, scope, close, stop, test, repeat, left, turn, eval, call}
+use Rattle.definition.specs.Tape.{In, State, Out, ok, refused, andThen, choose, hereAt, nthAt, nthKind, gluedAt, gluedKind}
+use Rattle.definition.specs.Prog.{Prog, Mark, mark, done, seq, nth, glued, here, flush, bump, scope, stop, test, repeat, left, turn, eval, call}
 use Rattle.definition.specs.Grammar.{grammar}
 use Rattle.definition.specs.Parse.{run}
 use Rattle.laws.specs.Kept.{After}
@@ -18,7 +18,7 @@ use Rattle.laws.specs.Unroll.{unroll}
 use Rattle.laws.specs.Sizes.{Went, went, Based, based-now}
 use Rattle.laws.specs.Looking.{skipped, skipped-le, seen}
 use Rattle.laws.specs.Moves.{bump-end}
-use Rattle.tape.specs.View.{inOf, stateOf, rowsIn, pickOut, outOf, Ready, Marked, Step, Ran}
+use Rattle.tape.specs.View.{inOf, stateOf, pickOut, said, saying, Ready, Marked, Held, Step, Follows, Ran}
 use Rattle.tape.specs.Rows.{length-rows}
 use Rattle.tape.specs.declared.Tape.{Tape}
 
@@ -34,6 +34,14 @@ ready-answer g =
       looks = record { end = g .looks .end; few = g .looks .few; next = g .looks .next; second = g .looks .second };
       fits = g .fits;
     }
+
+yes-no : (b : Bool) → eqb (cond b 1 0) 1 ≡ b
+yes-no true = refl
+yes-no false = refl
+
+-- a kind that is one is no other
+pub not-key : (b : ℕ) {k a : ℕ} → k ≡ a → eqb a b ≡ false → eqb k b ≡ false
+not-key b e h = ap (λ (x : ℕ). eqb x b) e ∙ h
 
 -- ## Outcomes
 
@@ -183,6 +191,16 @@ module _ {ks ls : List ℕ} {m : ℕ} where
   pub answered-as : {A : Type 0} {a b : A} {t : Tape} {tab : List ℕ} {n : ℕ} → a ≡ b → Ready t ks ls tab → Step m (done a) b t (answer n t) ks ls tab tab
   answered-as {b = b} {t = t} {tab = tab} {n = n} e g = subst (λ (x : _). Step m (done x) b t (answer n t) ks ls tab tab) (sym e) (answered g)
 
+  -- yes or no is put down
+  pub says : {A : Type 0} (f : Bool → A) {b : Bool} {t r : Tape} {tab : List ℕ} → r ≡ saying b t → Ready t ks ls tab → Step m (done (f b)) (f (said r)) t r ks ls tab tab
+  says f {b = b} {t = t} {r = r} {tab = tab} e g =
+      let q : b ≡ said r = sym (yes-no b) ∙ ap said (sym e) in
+      subst (λ (x : Tape). Step m (done (f b)) (f (said r)) t x ks ls tab tab) (sym e) (answered-as (ap f q) g)
+
+  -- what the tape answered before is the answer
+  pub kept : {A : Type 0} {a b : A} {t : Tape} {tab : List ℕ} → a ≡ b → Ready t ks ls tab → Step m (done a) b t t ks ls tab tab
+  kept {b = b} {t = t} {tab = tab} e g = subst (λ (x : _). Step m (done x) b t t ks ls tab tab) (sym e) (nothing g)
+
   -- what the tape answered before does not matter
   pub unanswered : {A : Type 0} {p : Prog A} {a : A} {n : ℕ} {t r : Tape} {tab tab′ : List ℕ} → Step m p a (answer n t) r ks ls tab tab′ → Step m p a t r ks ls tab tab′
   unanswered w = record { is = w .is; ready = w .ready; len = w .len; left = w .left }
@@ -227,29 +245,31 @@ pub marked-now : {t : Tape} {tab : List ℕ} → Marked (t .rows) t tab
 marked-now {t} {tab} = record { based = subst (λ (n : ℕ). Based n (stateOf t tab)) (length-rows (t .rows) tab) (based-now (stateOf t tab)) }
 
 module _ {A : Type 0} {t r : Tape} {ks ls tab tab′ : List ℕ} (w : Ran flush tt t r ks ls tab tab′) where
-  scope-ok : (q : Prog A) (m : ℕ) → r .no ≡ 0 → run (inOf ks ls tab) (t .left) m (scope q) (stateOf t tab) ≡ run (inOf ks ls tab) (t .left) (r .rows) q (stateOf r tab′)
+  scope-ok : (q : Mark → Prog A) (m : ℕ) → r .no ≡ 0 →
+      run (inOf ks ls tab) (t .left) m (scope q) (stateOf t tab) ≡ run (inOf ks ls tab) (t .left) (r .rows) (q (mark (r .rows))) (stateOf r tab′)
   unfolding run eval andThen
   scope-ok q m z = rw (step-ok (w .under m) z, length-rows (r .rows) tab′)
 
   -- a checkpoint, and what is done under its mark
-  pub scoped : {q : Prog A} {a : A} {x : Tape} {tab″ : List ℕ} → r .no ≡ 0 → Step (r .rows) q a r x ks ls tab′ tab″ → Ran (scope q) a t x ks ls tab tab″
+  pub scoped : {q : Mark → Prog A} {a : A} {x : Tape} {tab″ : List ℕ} → r .no ≡ 0 → Step (r .rows) (q (mark (r .rows))) a r x ks ls tab′ tab″ →
+      Ran (scope q) a t x ks ls tab tab″
   scoped {q = q} z v =
       record {
         under = λ m.
             record {
-              is = v .is ∙ (run-same ks ls tab tab′ (t .left) (r .left) (r .rows) q (stateOf r tab′) (w .under m .len) (w .under m .left) ∙ sym (scope-ok q m z));
+              is = v .is ∙ (run-same ks ls tab tab′ (t .left) (r .left) (r .rows) (q (mark (r .rows))) (stateOf r tab′) (w .under m .len) (w .under m .left) ∙ sym (scope-ok q m z));
               ready = v .ready;
               len = v .len ∙ w .under m .len;
               left = v .left ∙ w .under m .left;
             };
       }
 
-  scope-no : (q : Prog A) (m : ℕ) → (r .no ≡ 0 → ⊥) → run (inOf ks ls tab) (t .left) m (scope q) (stateOf t tab) ≡ refused (r .no) (r .place)
+  scope-no : (q : Mark → Prog A) (m : ℕ) → (r .no ≡ 0 → ⊥) → run (inOf ks ls tab) (t .left) m (scope q) (stateOf t tab) ≡ refused (r .no) (r .place)
   unfolding run eval andThen
   scope-no q m z = rw (step-no (w .under m) z)
 
   -- a checkpoint that is refused
-  pub unscoped : {q : Prog A} {a : A} → (r .no ≡ 0 → ⊥) → Ran (scope q) a t r ks ls tab tab′
+  pub unscoped : {q : Mark → Prog A} {a : A} → (r .no ≡ 0 → ⊥) → Ran (scope q) a t r ks ls tab tab′
   unscoped {q = q} {a = a} z =
       record {
         under = λ m.
@@ -260,6 +280,33 @@ module _ {A : Type 0} {t r : Tape} {ks ls tab tab′ : List ℕ} (w : Ran flush 
               left = w .under m .left;
             };
       }
+
+-- ## A step behind one that may have been refused
+
+module _ {ks ls : List ℕ} {m : ℕ} {t : Tape} {tab : List ℕ} where
+  pub held : {A : Type 0} {p : Prog A} {a : A} {r : Tape} {tab′ : List ℕ} → Step m p a t r ks ls tab tab′ → Marked m t tab → Held m r ks ls tab′
+  held w b = record { ready = w .ready; marked = λ z. step-marked w z b }
+
+  pub held-now : Ready t ks ls tab → Marked m t tab → Held m t ks ls tab
+  held-now g b = record { ready = λ z. g; marked = λ z. b }
+
+  pub followed : {A B : Type 0} {p : Prog A} {f : A → Prog B} {a : A} {b : B} {u r : Tape} {tab′ tab″ : List ℕ} →
+      Step m p a t u ks ls tab tab′ → Follows m (f a) b u r ks ls tab′ tab″ → Step m (seq p f) b t r ks ls tab tab″
+  followed {p = p} {f = f} {b = b} {u = u} {r = r} {tab′ = tab′} {tab″ = tab″} w v = go (u .no) refl
+    where
+      go : (n : ℕ) → u .no ≡ n → Step m (seq p f) b t r ks ls tab tab″
+      go zero e = both w e (v .on e)
+      go (suc n) e =
+          let z : u .no ≡ 0 → ⊥ = λ y. omega arith in
+          subst (λ (x : Tape). Step m (seq p f) b t x ks ls tab tab″) (sym (v .off z .0))
+          (subst (λ (x : List ℕ). Step m (seq p f) b t u ks ls tab x) (sym (v .off z .1)) (cut w z))
+
+  pub follows-len : {A : Type 0} {p : Prog A} {a : A} {r : Tape} {tab′ : List ℕ} → Follows m p a t r ks ls tab tab′ → length tab′ ≡ length tab
+  follows-len {r = r} {tab′ = tab′} v = go (t .no) refl
+    where
+      go : (n : ℕ) → t .no ≡ n → length tab′ ≡ length tab
+      go zero e = v .on e .len
+      go (suc n) e = ap (λ (x : List ℕ). length x) (v .off (λ y. omega arith) .1)
 
 -- ## Loops
 
@@ -332,7 +379,7 @@ module _ {ks ls : List ℕ} {m : ℕ} where
   module _ {A C : Type 0} (f : A → Prog (A ⊎ C)) (a : A) {t r : Tape} {tab tab′ : List ℕ} where
     turn-is : {b : A} → Step m (f a) (inl b) t r ks ls tab tab′ → r .no ≡ 0 → Onward t r →
         run (inOf ks ls tab) (t .left) m (repeat f b) (stateOf r tab′) ≡ run (inOf ks ls tab) (t .left) m (repeat f a) (stateOf t tab)
-    unfolding run turn andThen guard left
+    unfolding run turn andThen choose left
     turn-is {b = b} w z h =
         sym (unroll (inOf ks ls tab) (call grammar (inOf ks ls tab) (t .left)) m f a (stateOf t tab) ∙
         (rw (step-ok w z, lt-ltb (length ks - r .at) (length ks - t .at) (further (w .ready z .looks .end) (h .goes)))))

@@ -2,7 +2,7 @@
 -- Assumes nothing.
 use Prim.Native.Nat.{ℕ, zero, suc, _+_, _*_, _≤_}
 use mathlib.Core.Path.{_≡_}
-use mathlib.Core.Bool.{Bool}
+use mathlib.Core.Bool.{Bool, cond}
 use mathlib.Core.List.{List, [], _∷_, _++_}
 use lib.ListN.{length, getD}
 use lib.Dec.{eqb}
@@ -46,6 +46,11 @@ outOf a t tab = pickOut (t .no) (t .place) a (stateOf t tab)
 -- an answer of yes or no
 abbrev pub said : Tape → Bool
 said t = eqb (t .ans) 1
+
+-- the tape with yes or no for an answer
+abbrev pub saying : Bool → Tape → Tape
+saying b t =
+    record { at = t .at; next = t .next; second = t .second; byte = t .byte; rows = t .rows; left = t .left; no = t .no; place = t .place; ans = cond b 1 0 }
 
 -- ## What is asked
 
@@ -102,3 +107,15 @@ pub record Leaf (t r : Tape) (ks ls tab tab′ : List ℕ) : Type 0 where
 -- the same for a program that closes over no mark but its own
 pub record Ran {A : Type 0} (p : Prog A) (a : A) (t r : Tape) (ks ls tab tab′ : List ℕ) : Type 0 where
   pub under : (m : ℕ) → Step m p a t r ks ls tab tab′
+
+-- ## A step behind one that may have been refused
+
+-- A tape that is ready, with m a mark of it, unless it is refused
+pub record Held (m : ℕ) (t : Tape) (ks ls tab : List ℕ) : Type 0 where
+  pub ready : t .no ≡ 0 → Ready t ks ls tab
+  pub marked : t .no ≡ 0 → Marked m t tab
+
+-- Where t is not refused, p goes from t to r; a refused tape comes back as it is
+pub record Follows {A : Type 0} (m : ℕ) (p : Prog A) (a : A) (t r : Tape) (ks ls tab tab′ : List ℕ) : Type 0 where
+  pub on : t .no ≡ 0 → Step m p a t r ks ls tab tab′
+  pub off : (t .no ≡ 0 → ⊥) → (r ≡ t) × (tab′ ≡ tab)

@@ -5,11 +5,11 @@ ghost use Prim.Native.Nat.{ℕ, _+_, _*_, _≤_, _<_};
 ghost use lib.ListN.{length, drop, getD};
 ghost use lib.Seq.{sets};
 ghost use Rattle.definition.specs.Tape.{nthKind, gluedKind, startOf, capacity as capacityOf};
-ghost use Rattle.definition.specs.Prog.{flush, bump as bumpProg, close};
+ghost use Rattle.definition.specs.Prog.{mark as marking, flush, bump as bumpProg, close};
 ghost use Rattle.definition.specs.Grammar.{bump-if, bump-while, push as pushProg, empty as emptyProg, advance as advanceProg};
 ghost use Rattle.laws.specs.Looking.{skipped};
 ghost use Rattle.kinds.specs.Ops.{opOf};
-ghost use Rattle.tape.specs.View.{rowsIn, said, Looks, Ready, Marked, Begins, Leaf, Step, Ran};
+ghost use Rattle.tape.specs.View.{rowsIn, said, saying, Looks, Ready, Marked, Begins, Leaf, Step, Ran};
 use kinds::operators::Op;
 
 // The state. After each call that writes, `no` is tested: 0 goes on, and another number is a refusal at `place`.
@@ -144,6 +144,19 @@ impl Tape {
         }
     }
 
+    // The same tape, answering yes or no.
+    pub fn say(self, yes: bool) -> Tape
+        ensures { λ r. ⌜ r ≡ saying yes self ⌝ }
+    {
+        let mut t = self;
+        if yes {
+            t.ans = 1;
+            return t;
+        }
+        t.ans = 0;
+        t
+    }
+
     // The token `at`, trivia or not, as a leaf. The places of the next two tokens are left as they are.
     fn leaf(self, kinds: &[u8], lens: &[u32], table: &mut [u32]) -> Tape
         requires { ⌜ (self .at < length (now kinds)) × Ready self (now kinds) (now lens) (now table) ⌝ }
@@ -169,7 +182,7 @@ impl Tape {
         self.refuse(11, self.next)
     }
 
-    // Writes pending trivia. A checkpoint is this, and then `rows` as its mark.
+    // Writes pending trivia.
     pub fn flush_ws(self, kinds: &[u8], lens: &[u32], table: &mut [u32]) -> Tape
         requires { ⌜ Ready self (now kinds) (now lens) (now table) ⌝ }
         ensures { λ r. ⌜ Ran flush tt self r (now (kinds .entry)) (now (lens .entry)) (now (table .entry)) (now (table .exit)) ⌝ }
@@ -184,7 +197,7 @@ impl Tape {
         t
     }
 
-    // Writes pending trivia, then the token.
+    // Writes pending trivia, then the token; at the end, where there is none, pending trivia alone.
     pub fn bump(self, kinds: &[u8], lens: &[u32], table: &mut [u32]) -> Tape
         requires { ⌜ Ready self (now kinds) (now lens) (now table) ⌝ }
         ensures { λ r. ⌜ Ran bumpProg tt self r (now (kinds .entry)) (now (lens .entry)) (now (table .entry)) (now (table .exit)) ⌝ }
@@ -206,10 +219,18 @@ impl Tape {
         t
     }
 
-    // A node over all rows since the mark c.
+    // A checkpoint: pending trivia is written, and the row count is then the mark, `let c = t.rows;`.
+    pub fn mark(self, kinds: &[u8], lens: &[u32], table: &mut [u32]) -> Tape
+        requires { ⌜ Ready self (now kinds) (now lens) (now table) ⌝ }
+        ensures { λ r. ⌜ Ran flush tt self r (now (kinds .entry)) (now (lens .entry)) (now (table .entry)) (now (table .exit)) ⌝ }
+    {
+        self.flush_ws(kinds, lens, table)
+    }
+
+    // A node over all rows since the mark c. (It reads neither list: they are lent since what is promised speaks of them.)
     pub fn close_at(self, c: usize, kind: u8, kinds: &[u8], lens: &[u32], table: &mut [u32]) -> Tape
         requires { ⌜ Marked c self (now table) × Ready self (now kinds) (now lens) (now table) ⌝ }
-        ensures { λ r. ⌜ Step c (close kind) tt self r (now (kinds .entry)) (now (lens .entry)) (now (table .entry)) (now (table .exit)) ⌝ }
+        ensures { λ r. ⌜ Step c (close (marking c) kind) tt self r (now (kinds .entry)) (now (lens .entry)) (now (table .entry)) (now (table .exit)) ⌝ }
     {
         let rows = self.rows;
         let here = self.next;
@@ -293,7 +314,7 @@ impl Tape {
         requires { ⌜ Ready self (now kinds) (now lens) (now table) ⌝ }
         ensures { λ r. ⌜ Ran (pushProg kind) tt self r (now (kinds .entry)) (now (lens .entry)) (now (table .entry)) (now (table .exit)) ⌝ }
     {
-        let t = self.flush_ws(kinds, lens, table);
+        let t = self.mark(kinds, lens, table);
         if t.no != 0 {
             return t;
         }
@@ -310,7 +331,7 @@ impl Tape {
         requires { ⌜ Ready self (now kinds) (now lens) (now table) ⌝ }
         ensures { λ r. ⌜ Ran (emptyProg kind) tt self r (now (kinds .entry)) (now (lens .entry)) (now (table .entry)) (now (table .exit)) ⌝ }
     {
-        let t = self.flush_ws(kinds, lens, table);
+        let t = self.mark(kinds, lens, table);
         if t.no != 0 {
             return t;
         }

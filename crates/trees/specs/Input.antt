@@ -1,17 +1,17 @@
 -- An input as a list of tokens, and what is known of one that is parsed.
 -- Assumes nothing.
-use Prim.Native.Nat.{ℕ, zero, suc, _≤_}
-use mathlib.Core.Path.{_≡_, refl, _∙_}
+use Prim.Native.Nat.{ℕ, zero, suc, _-_, _≤_}
+use mathlib.Core.Path.{_≡_, refl}
 use mathlib.Core.Bool.{Bool, true, false, false≢true, _&&_}
 use mathlib.Core.List.{List, [], _∷_}
 use native.Mathlib.Omega.{arith}
 use lib.ListN.{length, drop}
 use lib.Dec.{leb}
 use borrow.Author.Tests.{eqb-true, leb-true}
-use Rattle.definition.specs.Kinds.{Eof, K-yield}
-use Rattle.definition.specs.Classes.{isTrivia, isToken, treated}
-use Rattle.definition.specs.Tape.{Out, guard, triv, nthKind}
-use Rattle.definition.specs.Parse.{Entry, program, firstNot, isLimit, isEntry, admitted, run, start, parse, numberOf}
+use Rattle.definition.specs.Kinds.{Eof}
+use Rattle.definition.specs.Classes.{isTrivia, isToken, isAssigned, treated}
+use Rattle.definition.specs.Tape.{Out, refused, guard, triv, nthKind}
+use Rattle.definition.specs.Parse.{Entry, program, firstNot, firstOver, isLimit, isEntry, admitted, run, start, parse, numberOf}
 use Rattle.laws.specs.Looking.{skipped}
 use Rattle.trees.specs.Forest.{Tok, kinds, lens, inOf}
 
@@ -25,6 +25,11 @@ pub tokens-kinds : (ks ls : List ℕ) → length ks ≡ length ls → kinds (tok
 tokens-kinds [] ls e = refl
 tokens-kinds (k ∷ ks) [] e = absurd (omega arith)
 tokens-kinds (k ∷ ks) (x ∷ ls) e = rw (tokens-kinds ks ls (omega arith))
+
+pub tokens-length : (ks ls : List ℕ) → length (kinds (tokens ks ls)) ≤ length ks
+tokens-length [] ls = omega arith
+tokens-length (k ∷ ks) [] = omega arith
+tokens-length (k ∷ ks) (x ∷ ls) = omega (arith, tokens-length ks ls)
 
 pub tokens-lens : (ks ls : List ℕ) → length ks ≡ length ls → lens (tokens ks ls) ≡ ls
 tokens-lens [] [] e = refl
@@ -46,34 +51,53 @@ kinds-first k ks h = go (isToken k) refl
 
 -- ## What is let in
 
--- number 0, or accepted: a test was passed
-guard-past : (b : Bool) (n pl : ℕ) (k : Unit {0} → Out (Unit {0})) → (n ≡ 0 → ⊥) → numberOf (guard b n pl k) ≡ 0 → (b ≡ true) × (guard b n pl k ≡ k tt)
-unfolding guard numberOf
-guard-past true n pl k z e = (refl, refl)
-guard-past false n pl k z e = absurd (z e)
+first-not-le : (c : ℕ → Bool) (l : List ℕ) → firstNot c l ≤ length l
+unfolding firstNot
+first-not-le c [] = omega arith
+first-not-le c (k ∷ l) = go (c k) refl (first-not-le c l)
+  where
+    go : (b : Bool) → c k ≡ b → firstNot c l ≤ length l → firstNot c (k ∷ l) ≤ suc (length l)
+    go true e h = rw (e, firstNot) (omega arith)
+    go false e h = rw (e, firstNot) (omega arith)
 
--- an input that is parsed, and its parse, over its tokens
-pub record Parsed (e : Entry) (ks ls : List ℕ) (n limit : ℕ) : Type 0 where
+first-over-le : (n : ℕ) (l : List ℕ) → firstOver n l ≤ length l
+unfolding firstOver
+first-over-le n [] = omega arith
+first-over-le n (x ∷ l) = go (leb x n) refl (first-over-le (n - x) l)
+  where
+    go : (b : Bool) → leb x n ≡ b → firstOver (n - x) l ≤ length l → firstOver n (x ∷ l) ≤ suc (length l)
+    go true e h = rw (e, firstOver) (omega arith)
+    go false e h = rw (e, firstOver) (omega arith)
+
+guard-either : (P : Out (Unit {0}) → Type 0) (b : Bool) (n pl : ℕ) (k : Unit {0} → Out (Unit {0})) → P (refused n pl) → (b ≡ true → P (k tt)) → P (guard b n pl k)
+unfolding guard
+guard-either P true n pl k h g = g refl
+guard-either P false n pl k h g = h
+
+-- an input that is parsed
+pub record Parsed (e : Entry) (ks ls : List ℕ) (limit : ℕ) : Type 0 where
   pub entry : isLimit limit && isEntry e ≡ true
   pub pair : length ks ≡ length ls
   pub all : Kinds (kinds (tokens ks ls))
-  pub is : parse e ks ls n limit ≡ run (inOf (tokens ks ls) n) limit 0 (program e) start
 
-pub parsed : (e : Entry) (ks ls : List ℕ) (n limit : ℕ) → numberOf (parse e ks ls n limit) ≡ 0 → Parsed e ks ls n limit
+-- A call is refused with 1 to 5, at a place in the list or at its end; or its input is parsed, as a list of tokens.
+pub let-in : (e : Entry) (ks ls : List ℕ) (n limit : ℕ) (P : Out (Unit {0}) → Type 0) →
+    ((k pl : ℕ) → 1 ≤ k → k ≤ 5 → pl ≤ length (kinds (tokens ks ls)) → P (refused k pl)) →
+    (Parsed e ks ls limit → P (run (inOf (tokens ks ls) n) limit 0 (program e) start)) → P (parse e ks ls n limit)
 unfolding parse admitted inOf
-parsed e ks ls n limit h =
-    let g1 = guard-past _ 1 0 _ (λ z. omega arith) h in
-    let g2 = guard-past _ 2 0 _ (λ z. omega arith) (rw (g1 .1) at h) in
-    let g3 = guard-past _ 3 0 _ (λ z. omega arith) (rw (g1 .1, g2 .1) at h) in
-    let g4 = guard-past _ 4 _ _ (λ z. omega arith) (rw (g1 .1, g2 .1, g3 .1) at h) in
-    let g5 = guard-past _ 5 _ _ (λ z. omega arith) (rw (g1 .1, g2 .1, g3 .1, g4 .1) at h) in
-    let pair : length ks ≡ length ls = eqb-true _ _ (g2 .0) in
-    record {
-      entry = g1 .0;
-      pair = pair;
-      all = rw (tokens-kinds ks ls pair) (eqb-true _ _ (g4 .0));
-      is = rw (tokens-kinds ks ls pair, tokens-lens ks ls pair) (g1 .1 ∙ g2 .1 ∙ g3 .1 ∙ g4 .1 ∙ g5 .1);
-    }
+let-in e ks ls n limit P early late =
+    guard-either P _ 1 0 _ (early 1 0 (omega arith) (omega arith) (omega arith)) (λ g1.
+    guard-either P _ 2 0 _ (early 2 0 (omega arith) (omega arith) (omega arith)) (λ g2.
+    let pair : length ks ≡ length ls = eqb-true _ _ g2 in
+    guard-either P _ 3 0 _ (early 3 0 (omega arith) (omega arith) (omega arith)) (λ g3.
+    guard-either P _ 4 _ _ (early 4 _ (omega arith) (omega arith) (rw (tokens-kinds ks ls pair) (first-not-le isToken ks))) (λ g4.
+    guard-either P _ 5 _ _ (early 5 _ (omega arith) (omega arith) (rw (tokens-kinds ks ls pair, pair) (first-over-le 16777216 ls))) (λ g5.
+    rw (tokens-kinds ks ls pair, tokens-lens ks ls pair) at (late (record { entry = g1; pair = pair; all = rw (tokens-kinds ks ls pair) (eqb-true _ _ g4) })))))))
+
+-- number 0: it is parsed
+pub parsed : (e : Entry) (ks ls : List ℕ) (n limit : ℕ) → numberOf (parse e ks ls n limit) ≡ 0 → Parsed e ks ls limit
+unfolding numberOf
+parsed e ks ls n limit = let-in e ks ls n limit (λ o. numberOf o ≡ 0 → Parsed e ks ls limit) (λ k pl a b c z. absurd (omega arith)) (λ x z. x)
 
 -- ## Where a token is no longer seen, none is left
 
@@ -87,9 +111,9 @@ and-second false b h = absurd (false≢true h)
 
 pub treated-some : (k : ℕ) → isToken k ≡ true → treated k ≡ Eof → ⊥
 unfolding isToken treated
-treated-some k h e = go (leb k K-yield) refl
+treated-some k h e = go (isAssigned k) refl
   where
-    go : (b : Bool) → leb k K-yield ≡ b → ⊥
+    go : (b : Bool) → isAssigned k ≡ b → ⊥
     go true z = omega (arith, leb-true 1 k (and-first (leb 1 k) _ h), rw z at e)
     go false z = omega (arith, rw z at e)
 

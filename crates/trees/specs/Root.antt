@@ -11,7 +11,7 @@ use lib.ListN.{length}
 use borrow.Author.Tests.{eqb-true, not-false}
 use Rattle.definition.specs.Kinds.{Eof, Root}
 use Rattle.definition.specs.Classes.{isSome}
-use Rattle.definition.specs.Tape.{In, State, Out, ok, refused, andThen, choose, guard, nthAt, flushAt, closeAt}
+use Rattle.definition.specs.Tape.{In, State, Out, ok, refused, fault, andThen, choose, nthAt, flushAt, closeAt}
 use Rattle.definition.specs.Prog.{Prog, flush, bump, _>>_, Calls, turn, turns, eval}
 use Rattle.definition.specs.Grammar.{not-eof, while, while-turn, expr, separated, stmt}
 use Rattle.definition.specs.Grammar as grammar
@@ -30,7 +30,7 @@ before (exprs separator) = while not-eof (separated separator) >> flush
 before format = expr >> while not-eof bump >> flush
 
 pub closed-last : (i : In) (e : Calls) (x : Entry) (s : State) → eval i e 0 (program x) s ≡ andThen (eval i e 0 (before x) s) (λ u t. closeAt i 0 Root t)
-unfolding program before eval grammar.root grammar.exprs grammar.format
+unfolding program before eval choose grammar.root grammar.exprs grammar.format
 closed-last i e root s = sym (then-assoc _ _ _)
 closed-last i e (exprs separator) s = sym (then-assoc _ _ _)
 closed-last i e format s = then-cong _ _ _ (λ u t. sym (then-assoc _ _ _)) ∙ sym (then-assoc _ _ _)
@@ -41,28 +41,26 @@ closed-last i e format s = then-cong _ _ _ (λ u t. sym (then-assoc _ _ _)) ∙ 
 abbrev pub Post : {A : Type 0} → (A → State → Type 0) → Out A → Type 0
 Post P (ok a t) = P a t
 Post P (refused n pl) = Unit {0}
+Post P (fault w) = Unit {0}
 
 post-then : {A B : Type 0} (J : A → State → Type 0) (P : B → State → Type 0) (o : Out A) (f : A → State → Out B) → Post J o →
     ((a : A) (t : State) → J a t → Post P (f a t)) → Post P (andThen o f)
 unfolding andThen
 post-then J P (ok a t) f h g = g a t h
 post-then J P (refused n pl) f h g = tt
+post-then J P (fault w) f h g = tt
 
-post-choose : {A : Type 0} (P : A → State → Type 0) (b : Bool) (k l : Unit {0} → Out A) → (b ≡ true → Post P (k tt)) → (b ≡ false → Post P (l tt)) →
+pub post-choose : {A : Type 0} (P : A → State → Type 0) (b : Bool) (k l : Unit {0} → Out A) → (b ≡ true → Post P (k tt)) → (b ≡ false → Post P (l tt)) →
     Post P (choose b k l)
 unfolding choose
 post-choose P true k l h g = h refl
 post-choose P false k l h g = g refl
 
-pub post-guard : {A : Type 0} (P : A → State → Type 0) (b : Bool) (n pl : ℕ) (k : Unit {0} → Out A) → Post P (k tt) → Post P (guard b n pl k)
-unfolding guard
-post-guard P true n pl k h = h
-post-guard P false n pl k h = tt
-
 -- of which nothing is known
 post-any : {A : Type 0} (o : Out A) → Post (λ a t. Unit {0}) o
 post-any (ok a t) = tt
 post-any (refused n pl) = tt
+post-any (fault w) = tt
 
 -- a turn that leaves its loop leaves P true
 abbrev Last : {A B : Type 0} → (B → State → Type 0) → A ⊎ B → State → Type 0
@@ -72,7 +70,7 @@ Last P (inr b) t = P b t
 module _ {A B : Type 0} (i : In) (P : B → State → Type 0) (f : A → State → Out (A ⊎ B)) (h : (a : A) (s : State) → Post (Last P) (f a s)) where
   post-turn : (s : State) (k : A → State → Out B) → ((a : A) (t : State) → Post P (k a t)) → (x : A ⊎ B) (t : State) → Last P x t → Post P (turn i s k x t)
   unfolding turn
-  post-turn s k g (inl b) t z = post-guard P _ 0 0 _ (g b t)
+  post-turn s k g (inl b) t z = post-choose P _ _ _ (λ y. g b t) (λ y. tt)
   post-turn s k g (inr b) t z = z
 
   post-turns : (n : ℕ) (a : A) (s : State) → Post P (turns i n f a s)
@@ -109,6 +107,7 @@ module _ (l : List Tok) (n : ℕ) (e : Calls) (all : Kinds (kinds l)) where
       go (yes h) (ok u t) x = omega (arith, flush-end (inOf l n) s t u h x, unseen (kinds l) (s .at) all z)
       go (no h) (ok u t) x = omega (arith, subst (λ (o : Out _). After (Went 0) s o) x (went-leaves (inOf l n) 0 _ s) .grows .at)
       go h (refused k pl) x = tt
+      go h (fault w) x = tt
 
   while-at-end : (q : Prog (Unit {0})) (s : State) → Post (AtEnd l) (eval (inOf l n) e 0 (while not-eof q >> flush) s)
   unfolding eval

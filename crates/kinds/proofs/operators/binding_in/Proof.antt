@@ -15,16 +15,16 @@ sub-result c = search needs
 cast-result : tie.Need-cast-result
 cast-result c = search needs
 
-element-copy-out-result : tie.Need-element-copy-out-result
-element-copy-out-result c = search needs
+array-read-result : tie.Need-array-read-result
+array-read-result c = search needs
 
 returns : tie.Need-returns
 unfolding among bindings bindingIn
 returns c =
     record {
-      is = each-number 30 34 (c .before .before .args .k) (search needs) (λ m e h. rw e h) tt;
-      small = ltb-true _ 14 (each 30 34 (c .before .before .args .k) {g = λ m. true} (search needs) (λ m e h. rw e h) tt);
+      is = each-number 30 34 (c .args .k) (search needs) (λ m e h. rw e h) tt;
+      small = ltb-true _ 14 (each 30 34 (c .args .k) {g = λ m. true} (search needs) (λ m e h. rw e h) tt);
     }
 
 pub binding-in-spec : {M : Type 1} → statement M
-binding-in-spec = tie.close (tie.spec sub-result cast-result element-copy-out-result returns)
+binding-in-spec = tie.close (tie.spec sub-result cast-result array-read-result returns)

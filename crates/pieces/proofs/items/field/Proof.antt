@@ -8,13 +8,14 @@ use native.Mathlib.Omega.{arith}
 use borrow.Author.Needs.{needs}
 use borrow.Author.Tests.{eq-eqb, ne-eqb}
 use Rattle.definition.specs.Classes.{isPathComponent, isPat, isPatOrRest, isUsePart, isSelectArm}
-use Rattle.definition.specs.Prog.{repeat}
+use Rattle.definition.specs.Modes.{Brace, Range}
+use Rattle.definition.specs.Prog.{mark, repeat}
 use Rattle.definition.specs.Grammar.{field}
-use Rattle.laws.specs.Progress.{path-component-some, use-path-some, object-key-some, glues-some}
-use Rattle.kinds.specs.Laws.{not-eof, at-eof}
+use Rattle.laws.specs.Progress.{path-component-some, use-path-some, object-key-some, glues-some, recovering-some}
+use Rattle.kinds.specs.Laws.{not-eof as none-eof, at-eof}
 use Rattle.tape.specs.View.{Step, Ran, said}
-use Rattle.tape.specs.Steps.{Loop, Onward, fuel, burns, here-few, marked-now, step-marked, both, cut, refusal, ends, if-yes, if-no, look, touch, spot, ask, ask-glued, ask-second, scoped, unscoped, nothing, answered, answered-as, refuses, refused-tape, inv-start, inv-again, inv-end, last, last-cut}
-use Rattle.tape.specs.Counted.{deep, entered, barred, goes-on, goes-some, goes-saw, goes-glued, and-on}
+use Rattle.tape.specs.Steps.{Loop, Onward, fuel, burns, here-few, marked-now, step-marked, held, held-now, followed, follows-len, not-key, both, cut, refusal, ends, if-yes, if-no, look, touch, spot, ask, ask-glued, ask-second, ask-second-as, scoped, unscoped, nothing, answered, answered-as, says, kept, refuses, refused-tape, inv-start, inv-again, inv-end, last, last-cut}
+use Rattle.tape.specs.Counted.{deep, entered, entered-bool, barred, goes-on, goes-some, goes-saw, goes-glued, and-on}
 -- ## The skeleton
 use borrow.Author.Needs.{needs}
 use Rattle.pieces.proofs.items.field.Statement.{statement}

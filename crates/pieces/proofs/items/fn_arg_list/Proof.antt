@@ -8,13 +8,14 @@ use native.Mathlib.Omega.{arith}
 use borrow.Author.Needs.{needs}
 use borrow.Author.Tests.{eq-eqb, ne-eqb}
 use Rattle.definition.specs.Classes.{isPathComponent, isPat, isPatOrRest, isUsePart, isSelectArm}
-use Rattle.definition.specs.Prog.{repeat}
+use Rattle.definition.specs.Modes.{Brace, Range}
+use Rattle.definition.specs.Prog.{mark, repeat}
 use Rattle.definition.specs.Grammar.{fn-arg-list}
-use Rattle.laws.specs.Progress.{path-component-some, use-path-some, object-key-some, glues-some}
-use Rattle.kinds.specs.Laws.{not-eof, at-eof}
+use Rattle.laws.specs.Progress.{path-component-some, use-path-some, object-key-some, glues-some, recovering-some}
+use Rattle.kinds.specs.Laws.{not-eof as none-eof, at-eof}
 use Rattle.tape.specs.View.{Step, Ran, said}
-use Rattle.tape.specs.Steps.{Loop, Onward, fuel, burns, here-few, marked-now, step-marked, both, cut, refusal, ends, if-yes, if-no, look, touch, spot, ask, ask-glued, ask-second, scoped, unscoped, nothing, answered, answered-as, refuses, refused-tape, inv-start, inv-again, inv-end, last, last-cut}
-use Rattle.tape.specs.Counted.{deep, entered, barred, goes-on, goes-some, goes-saw, goes-glued, and-on}
+use Rattle.tape.specs.Steps.{Loop, Onward, fuel, burns, here-few, marked-now, step-marked, held, held-now, followed, follows-len, not-key, both, cut, refusal, ends, if-yes, if-no, look, touch, spot, ask, ask-glued, ask-second, ask-second-as, scoped, unscoped, nothing, answered, answered-as, says, kept, refuses, refused-tape, inv-start, inv-again, inv-end, last, last-cut}
+use Rattle.tape.specs.Counted.{deep, entered, entered-bool, barred, goes-on, goes-some, goes-saw, goes-glued, and-on}
 -- ## The skeleton
 use borrow.Author.Needs.{needs}
 use Rattle.pieces.proofs.items.fn_arg_list.Statement.{statement}
@@ -26,39 +27,39 @@ use Rattle.tape.proofs.Tape.bump.Reads as bump-reads
 use Rattle.tape.proofs.Tape.bump_if.Reads as bump-if-reads
 use Rattle.tape.proofs.Tape.bump_while.Reads as bump-while-reads
 use Rattle.tape.proofs.Tape.close_at.Reads as close-at-reads
-use Rattle.tape.proofs.Tape.flush_ws.Reads as flush-ws-reads
+use Rattle.tape.proofs.Tape.mark.Reads as mark-reads
 
 -- src/items.rt:327:9
-flush-ws-requires : tie.Need-flush-ws-requires
-flush-ws-requires c κs =
+mark-requires : tie.Need-mark-requires
+mark-requires c κs =
     c .before .before .before .before .pre
 
 -- src/items.rt:329:9
 same-length : tie.Need-same-length
 same-length c =
-    c .before .before .before .before .flush-ws .ensures .under 0 .len
+    c .before .before .before .before .mark .ensures .under 0 .len
 
 -- src/items.rt:329:9
 returns : tie.Need-returns
 unfolding fn-arg-list
 returns c =
-    unscoped (c .before .before .before .before .flush-ws .ensures) (c .if1 .taken)
+    unscoped (c .before .before .before .before .mark .ensures) (c .if1 .taken)
 
 -- src/items.rt:332:5
 bump-requires : tie.Need-bump-requires
 bump-requires c κs =
-    c .before .before .before .before .before .flush-ws .ensures .under 0 .ready (c .before .if1 .left)
+    c .before .before .before .before .before .mark .ensures .under 0 .ready (c .before .if1 .left)
 
 -- src/items.rt:334:9
 same-length-2 : tie.Need-same-length-2
 same-length-2 c =
-    c .before .before .before .before .bump .ensures .under 0 .len ∙ (c .before .before .before .before .before .before .before .before .before .before .flush-ws .ensures .under 0 .len)
+    c .before .before .before .before .bump .ensures .under 0 .len ∙ (c .before .before .before .before .before .before .before .before .before .before .mark .ensures .under 0 .len)
 
 -- src/items.rt:334:9
 returns-2 : tie.Need-returns-2
 unfolding fn-arg-list
 returns-2 c =
-    scoped (c .before .before .before .before .before .before .before .before .before .before .flush-ws .ensures) (c .before .before .before .before .before .before .if1 .left) (cut (c .before .before .before .before .bump .ensures .under _) (c .if2 .taken))
+    scoped (c .before .before .before .before .before .before .before .before .before .before .mark .ensures) (c .before .before .before .before .before .before .if1 .left) (cut (c .before .before .before .before .bump .ensures .under _) (c .if2 .taken))
 
 -- src/items.rt:336:5
 bump-while-requires : tie.Need-bump-while-requires
@@ -68,13 +69,13 @@ bump-while-requires c κs =
 -- src/items.rt:338:9
 same-length-3 : tie.Need-same-length-3
 same-length-3 c =
-    c .before .before .before .before .bump-while .ensures .under 0 .len ∙ (c .before .before .before .before .before .before .before .before .before .before .bump .ensures .under 0 .len ∙ (c .before .before .before .before .before .before .before .before .before .before .before .before .before .before .before .before .flush-ws .ensures .under 0 .len))
+    c .before .before .before .before .bump-while .ensures .under 0 .len ∙ (c .before .before .before .before .before .before .before .before .before .before .bump .ensures .under 0 .len ∙ (c .before .before .before .before .before .before .before .before .before .before .before .before .before .before .before .before .mark .ensures .under 0 .len))
 
 -- src/items.rt:338:9
 returns-3 : tie.Need-returns-3
 unfolding fn-arg-list
 returns-3 c =
-    scoped (c .before .before .before .before .before .before .before .before .before .before .before .before .before .before .before .before .flush-ws .ensures) (c .before .before .before .before .before .before .before .before .before .before .before .before .if1 .left) (both (c .before .before .before .before .before .before .before .before .before .before .bump .ensures .under _) (c .before .before .before .before .before .before .if2 .left) (cut (ends (c .before .before .before .before .bump-while .ensures .under _)) (c .if3 .taken)))
+    scoped (c .before .before .before .before .before .before .before .before .before .before .before .before .before .before .before .before .mark .ensures) (c .before .before .before .before .before .before .before .before .before .before .before .before .if1 .left) (both (c .before .before .before .before .before .before .before .before .before .before .bump .ensures .under _) (c .before .before .before .before .before .before .if2 .left) (cut (ends (c .before .before .before .before .bump-while .ensures .under _)) (c .if3 .taken)))
 
 -- src/items.rt:340:5
 pat-list-requires : tie.Need-pat-list-requires
@@ -84,13 +85,13 @@ pat-list-requires c κs =
 -- src/items.rt:342:9
 same-length-4 : tie.Need-same-length-4
 same-length-4 c =
-    c .before .before .before .before .pat-list .ensures .under 0 .len ∙ (c .before .before .before .before .before .before .before .before .before .before .bump-while .ensures .under 0 .len ∙ (c .before .before .before .before .before .before .before .before .before .before .before .before .before .before .before .before .bump .ensures .under 0 .len ∙ (c .before .before .before .before .before .before .before .before .before .before .before .before .before .before .before .before .before .before .before .before .before .before .flush-ws .ensures .under 0 .len)))
+    c .before .before .before .before .pat-list .ensures .under 0 .len ∙ (c .before .before .before .before .before .before .before .before .before .before .bump-while .ensures .under 0 .len ∙ (c .before .before .before .before .before .before .before .before .before .before .before .before .before .before .before .before .bump .ensures .under 0 .len ∙ (c .before .before .before .before .before .before .before .before .before .before .before .before .before .before .before .before .before .before .before .before .before .before .mark .ensures .under 0 .len)))
 
 -- src/items.rt:342:9
 returns-4 : tie.Need-returns-4
 unfolding fn-arg-list
 returns-4 c =
-    scoped (c .before .before .before .before .before .before .before .before .before .before .before .before .before .before .before .before .before .before .before .before .before .before .flush-ws .ensures) (c .before .before .before .before .before .before .before .before .before .before .before .before .before .before .before .before .before .before .if1 .left) (both (c .before .before .before .before .before .before .before .before .before .before .before .before .before .before .before .before .bump .ensures .under _) (c .before .before .before .before .before .before .before .before .before .before .before .before .if2 .left) (both (ends (c .before .before .before .before .before .before .before .before .before .before .bump-while .ensures .under _)) (c .before .before .before .before .before .before .if3 .left) (cut (c .before .before .before .before .pat-list .ensures .under _) (c .if4 .taken))))
+    scoped (c .before .before .before .before .before .before .before .before .before .before .before .before .before .before .before .before .before .before .before .before .before .before .mark .ensures) (c .before .before .before .before .before .before .before .before .before .before .before .before .before .before .before .before .before .before .if1 .left) (both (c .before .before .before .before .before .before .before .before .before .before .before .before .before .before .before .before .bump .ensures .under _) (c .before .before .before .before .before .before .before .before .before .before .before .before .if2 .left) (both (ends (c .before .before .before .before .before .before .before .before .before .before .bump-while .ensures .under _)) (c .before .before .before .before .before .before .if3 .left) (cut (c .before .before .before .before .pat-list .ensures .under _) (c .if4 .taken))))
 
 -- src/items.rt:344:5
 bump-if-requires : tie.Need-bump-if-requires
@@ -100,13 +101,13 @@ bump-if-requires c κs =
 -- src/items.rt:346:9
 same-length-5 : tie.Need-same-length-5
 same-length-5 c =
-    c .before .before .before .before .bump-if .ensures .under 0 .len ∙ (c .before .before .before .before .before .before .before .before .before .before .pat-list .ensures .under 0 .len ∙ (c .before .before .before .before .before .before .before .before .before .before .before .before .before .before .before .before .bump-while .ensures .under 0 .len ∙ (c .before .before .before .before .before .before .before .before .before .before .before .before .before .before .before .before .before .before .before .before .before .before .bump .ensures .under 0 .len ∙ (c .before .before .before .before .before .before .before .before .before .before .before .before .before .before .before .before .before .before .before .before .before .before .before .before .before .before .before .before .flush-ws .ensures .under 0 .len))))
+    c .before .before .before .before .bump-if .ensures .under 0 .len ∙ (c .before .before .before .before .before .before .before .before .before .before .pat-list .ensures .under 0 .len ∙ (c .before .before .before .before .before .before .before .before .before .before .before .before .before .before .before .before .bump-while .ensures .under 0 .len ∙ (c .before .before .before .before .before .before .before .before .before .before .before .before .before .before .before .before .before .before .before .before .before .before .bump .ensures .under 0 .len ∙ (c .before .before .before .before .before .before .before .before .before .before .before .before .before .before .before .before .before .before .before .before .before .before .before .before .before .before .before .before .mark .ensures .under 0 .len))))
 
 -- src/items.rt:346:9
 returns-5 : tie.Need-returns-5
 unfolding fn-arg-list
 returns-5 c =
-    scoped (c .before .before .before .before .before .before .before .before .before .before .before .before .before .before .before .before .before .before .before .before .before .before .before .before .before .before .before .before .flush-ws .ensures) (c .before .before .before .before .before .before .before .before .before .before .before .before .before .before .before .before .before .before .before .before .before .before .before .before .if1 .left) (both (c .before .before .before .before .before .before .before .before .before .before .before .before .before .before .before .before .before .before .before .before .before .before .bump .ensures .under _) (c .before .before .before .before .before .before .before .before .before .before .before .before .before .before .before .before .before .before .if2 .left) (both (ends (c .before .before .before .before .before .before .before .before .before .before .before .before .before .before .before .before .bump-while .ensures .under _)) (c .before .before .before .before .before .before .before .before .before .before .before .before .if3 .left) (both (c .before .before .before .before .before .before .before .before .before .before .pat-list .ensures .under _) (c .before .before .before .before .before .before .if4 .left) (cut (ends (c .before .before .before .before .bump-if .ensures .under _)) (c .if5 .taken)))))
+    scoped (c .before .before .before .before .before .before .before .before .before .before .before .before .before .before .before .before .before .before .before .before .before .before .before .before .before .before .before .before .mark .ensures) (c .before .before .before .before .before .before .before .before .before .before .before .before .before .before .before .before .before .before .before .before .before .before .before .before .if1 .left) (both (c .before .before .before .before .before .before .before .before .before .before .before .before .before .before .before .before .before .before .before .before .before .before .bump .ensures .under _) (c .before .before .before .before .before .before .before .before .before .before .before .before .before .before .before .before .before .before .if2 .left) (both (ends (c .before .before .before .before .before .before .before .before .before .before .before .before .before .before .before .before .bump-while .ensures .under _)) (c .before .before .before .before .before .before .before .before .before .before .before .before .if3 .left) (both (c .before .before .before .before .before .before .before .before .before .before .pat-list .ensures .under _) (c .before .before .before .before .before .before .if4 .left) (cut (ends (c .before .before .before .before .bump-if .ensures .under _)) (c .if5 .taken)))))
 
 -- src/items.rt:348:5
 close-at-requires : tie.Need-close-at-requires
@@ -116,19 +117,19 @@ close-at-requires c κs =
 -- src/items.rt:323:1
 same-length-6 : tie.Need-same-length-6
 same-length-6 c =
-    c .before .before .close-at .ensures .len ∙ (c .before .before .before .before .before .before .before .before .bump-if .ensures .under 0 .len ∙ (c .before .before .before .before .before .before .before .before .before .before .before .before .before .before .pat-list .ensures .under 0 .len ∙ (c .before .before .before .before .before .before .before .before .before .before .before .before .before .before .before .before .before .before .before .before .bump-while .ensures .under 0 .len ∙ (c .before .before .before .before .before .before .before .before .before .before .before .before .before .before .before .before .before .before .before .before .before .before .before .before .before .before .bump .ensures .under 0 .len ∙ (c .before .before .before .before .before .before .before .before .before .before .before .before .before .before .before .before .before .before .before .before .before .before .before .before .before .before .before .before .before .before .before .before .flush-ws .ensures .under 0 .len)))))
+    c .before .before .close-at .ensures .len ∙ (c .before .before .before .before .before .before .before .before .bump-if .ensures .under 0 .len ∙ (c .before .before .before .before .before .before .before .before .before .before .before .before .before .before .pat-list .ensures .under 0 .len ∙ (c .before .before .before .before .before .before .before .before .before .before .before .before .before .before .before .before .before .before .before .before .bump-while .ensures .under 0 .len ∙ (c .before .before .before .before .before .before .before .before .before .before .before .before .before .before .before .before .before .before .before .before .before .before .before .before .before .before .bump .ensures .under 0 .len ∙ (c .before .before .before .before .before .before .before .before .before .before .before .before .before .before .before .before .before .before .before .before .before .before .before .before .before .before .before .before .before .before .before .before .mark .ensures .under 0 .len)))))
 
 -- src/items.rt:323:1
 returns-6 : tie.Need-returns-6
 unfolding fn-arg-list
 returns-6 c =
-    scoped (c .before .before .before .before .before .before .before .before .before .before .before .before .before .before .before .before .before .before .before .before .before .before .before .before .before .before .before .before .before .before .before .before .flush-ws .ensures) (c .before .before .before .before .before .before .before .before .before .before .before .before .before .before .before .before .before .before .before .before .before .before .before .before .before .before .before .before .if1 .left) (both (c .before .before .before .before .before .before .before .before .before .before .before .before .before .before .before .before .before .before .before .before .before .before .before .before .before .before .bump .ensures .under _) (c .before .before .before .before .before .before .before .before .before .before .before .before .before .before .before .before .before .before .before .before .before .before .if2 .left) (both (ends (c .before .before .before .before .before .before .before .before .before .before .before .before .before .before .before .before .before .before .before .before .bump-while .ensures .under _)) (c .before .before .before .before .before .before .before .before .before .before .before .before .before .before .before .before .if3 .left) (both (c .before .before .before .before .before .before .before .before .before .before .before .before .before .before .pat-list .ensures .under _) (c .before .before .before .before .before .before .before .before .before .before .if4 .left) (both (ends (c .before .before .before .before .before .before .before .before .bump-if .ensures .under _)) (c .before .before .before .before .if5 .left) (c .before .before .close-at .ensures)))))
+    scoped (c .before .before .before .before .before .before .before .before .before .before .before .before .before .before .before .before .before .before .before .before .before .before .before .before .before .before .before .before .before .before .before .before .mark .ensures) (c .before .before .before .before .before .before .before .before .before .before .before .before .before .before .before .before .before .before .before .before .before .before .before .before .before .before .before .before .if1 .left) (both (c .before .before .before .before .before .before .before .before .before .before .before .before .before .before .before .before .before .before .before .before .before .before .before .before .before .before .bump .ensures .under _) (c .before .before .before .before .before .before .before .before .before .before .before .before .before .before .before .before .before .before .before .before .before .before .if2 .left) (both (ends (c .before .before .before .before .before .before .before .before .before .before .before .before .before .before .before .before .before .before .before .before .bump-while .ensures .under _)) (c .before .before .before .before .before .before .before .before .before .before .before .before .before .before .before .before .if3 .left) (both (c .before .before .before .before .before .before .before .before .before .before .before .before .before .before .pat-list .ensures .under _) (c .before .before .before .before .before .before .before .before .before .before .if4 .left) (both (ends (c .before .before .before .before .before .before .before .before .bump-if .ensures .under _)) (c .before .before .before .before .if5 .left) (c .before .before .close-at .ensures)))))
 
 pub fn-arg-list-spec : {M : Type 1} → statement M
 fn-arg-list-spec =
     tie.close
     (tie.spec
-    flush-ws-requires
+    mark-requires
     same-length
     returns
     bump-requires

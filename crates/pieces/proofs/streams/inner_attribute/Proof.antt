@@ -8,13 +8,14 @@ use native.Mathlib.Omega.{arith}
 use borrow.Author.Needs.{needs}
 use borrow.Author.Tests.{eq-eqb, ne-eqb}
 use Rattle.definition.specs.Classes.{isPathComponent, isPat, isPatOrRest, isUsePart, isSelectArm}
-use Rattle.definition.specs.Prog.{repeat}
+use Rattle.definition.specs.Modes.{Brace, Range}
+use Rattle.definition.specs.Prog.{mark, repeat}
 use Rattle.definition.specs.Grammar.{inner-attribute}
-use Rattle.laws.specs.Progress.{path-component-some, use-path-some, object-key-some, glues-some}
-use Rattle.kinds.specs.Laws.{not-eof, at-eof}
+use Rattle.laws.specs.Progress.{path-component-some, use-path-some, object-key-some, glues-some, recovering-some}
+use Rattle.kinds.specs.Laws.{not-eof as none-eof, at-eof}
 use Rattle.tape.specs.View.{Step, Ran, said}
-use Rattle.tape.specs.Steps.{Loop, Onward, fuel, burns, here-few, marked-now, step-marked, both, cut, refusal, ends, if-yes, if-no, look, touch, spot, ask, ask-glued, ask-second, scoped, unscoped, nothing, answered, answered-as, refuses, refused-tape, inv-start, inv-again, inv-end, last, last-cut}
-use Rattle.tape.specs.Counted.{deep, entered, barred, goes-on, goes-some, goes-saw, goes-glued, and-on}
+use Rattle.tape.specs.Steps.{Loop, Onward, fuel, burns, here-few, marked-now, step-marked, held, held-now, followed, follows-len, not-key, both, cut, refusal, ends, if-yes, if-no, look, touch, spot, ask, ask-glued, ask-second, ask-second-as, scoped, unscoped, nothing, answered, answered-as, says, kept, refuses, refused-tape, inv-start, inv-again, inv-end, last, last-cut}
+use Rattle.tape.specs.Counted.{deep, entered, entered-bool, barred, goes-on, goes-some, goes-saw, goes-glued, and-on}
 -- ## The skeleton
 use borrow.Author.Needs.{needs}
 use Rattle.pieces.proofs.streams.inner_attribute.Statement.{statement}
@@ -25,39 +26,39 @@ use Rattle.pieces.proofs.streams.attribute_stream.Reads as attribute-st
 use Rattle.tape.proofs.Tape.bump.Reads as bump-reads
 use Rattle.tape.proofs.Tape.bump_if.Reads as bump-if-reads
 use Rattle.tape.proofs.Tape.close_at.Reads as close-at-reads
-use Rattle.tape.proofs.Tape.flush_ws.Reads as flush-ws-reads
+use Rattle.tape.proofs.Tape.mark.Reads as mark-reads
 
 -- src/streams.rt:74:9
-flush-ws-requires : tie.Need-flush-ws-requires
-flush-ws-requires c κs =
+mark-requires : tie.Need-mark-requires
+mark-requires c κs =
     c .before .before .before .before .pre
 
 -- src/streams.rt:76:9
 same-length : tie.Need-same-length
 same-length c =
-    c .before .before .before .before .flush-ws .ensures .under 0 .len
+    c .before .before .before .before .mark .ensures .under 0 .len
 
 -- src/streams.rt:76:9
 returns : tie.Need-returns
 unfolding inner-attribute
 returns c =
-    unscoped (c .before .before .before .before .flush-ws .ensures) (c .if1 .taken)
+    unscoped (c .before .before .before .before .mark .ensures) (c .if1 .taken)
 
 -- src/streams.rt:79:5
 bump-requires : tie.Need-bump-requires
 bump-requires c κs =
-    c .before .before .before .before .before .flush-ws .ensures .under 0 .ready (c .before .if1 .left)
+    c .before .before .before .before .before .mark .ensures .under 0 .ready (c .before .if1 .left)
 
 -- src/streams.rt:81:9
 same-length-2 : tie.Need-same-length-2
 same-length-2 c =
-    c .before .before .before .before .bump .ensures .under 0 .len ∙ (c .before .before .before .before .before .before .before .before .before .before .flush-ws .ensures .under 0 .len)
+    c .before .before .before .before .bump .ensures .under 0 .len ∙ (c .before .before .before .before .before .before .before .before .before .before .mark .ensures .under 0 .len)
 
 -- src/streams.rt:81:9
 returns-2 : tie.Need-returns-2
 unfolding inner-attribute
 returns-2 c =
-    scoped (c .before .before .before .before .before .before .before .before .before .before .flush-ws .ensures) (c .before .before .before .before .before .before .if1 .left) (cut (c .before .before .before .before .bump .ensures .under _) (c .if2 .taken))
+    scoped (c .before .before .before .before .before .before .before .before .before .before .mark .ensures) (c .before .before .before .before .before .before .if1 .left) (cut (c .before .before .before .before .bump .ensures .under _) (c .if2 .taken))
 
 -- src/streams.rt:83:5
 bump-if-requires : tie.Need-bump-if-requires
@@ -67,13 +68,13 @@ bump-if-requires c κs =
 -- src/streams.rt:85:9
 same-length-3 : tie.Need-same-length-3
 same-length-3 c =
-    c .before .before .before .before .bump-if .ensures .under 0 .len ∙ (c .before .before .before .before .before .before .before .before .before .before .bump .ensures .under 0 .len ∙ (c .before .before .before .before .before .before .before .before .before .before .before .before .before .before .before .before .flush-ws .ensures .under 0 .len))
+    c .before .before .before .before .bump-if .ensures .under 0 .len ∙ (c .before .before .before .before .before .before .before .before .before .before .bump .ensures .under 0 .len ∙ (c .before .before .before .before .before .before .before .before .before .before .before .before .before .before .before .before .mark .ensures .under 0 .len))
 
 -- src/streams.rt:85:9
 returns-3 : tie.Need-returns-3
 unfolding inner-attribute
 returns-3 c =
-    scoped (c .before .before .before .before .before .before .before .before .before .before .before .before .before .before .before .before .flush-ws .ensures) (c .before .before .before .before .before .before .before .before .before .before .before .before .if1 .left) (both (c .before .before .before .before .before .before .before .before .before .before .bump .ensures .under _) (c .before .before .before .before .before .before .if2 .left) (cut (ends (c .before .before .before .before .bump-if .ensures .under _)) (c .if3 .taken)))
+    scoped (c .before .before .before .before .before .before .before .before .before .before .before .before .before .before .before .before .mark .ensures) (c .before .before .before .before .before .before .before .before .before .before .before .before .if1 .left) (both (c .before .before .before .before .before .before .before .before .before .before .bump .ensures .under _) (c .before .before .before .before .before .before .if2 .left) (cut (ends (c .before .before .before .before .bump-if .ensures .under _)) (c .if3 .taken)))
 
 -- src/streams.rt:87:5
 attribute-stream-requires : tie.Need-attribute-stream-requires
@@ -83,13 +84,13 @@ attribute-stream-requires c κs =
 -- src/streams.rt:89:9
 same-length-4 : tie.Need-same-length-4
 same-length-4 c =
-    c .before .before .before .before .attribute-stream .ensures .under 0 .len ∙ (c .before .before .before .before .before .before .before .before .before .before .bump-if .ensures .under 0 .len ∙ (c .before .before .before .before .before .before .before .before .before .before .before .before .before .before .before .before .bump .ensures .under 0 .len ∙ (c .before .before .before .before .before .before .before .before .before .before .before .before .before .before .before .before .before .before .before .before .before .before .flush-ws .ensures .under 0 .len)))
+    c .before .before .before .before .attribute-stream .ensures .under 0 .len ∙ (c .before .before .before .before .before .before .before .before .before .before .bump-if .ensures .under 0 .len ∙ (c .before .before .before .before .before .before .before .before .before .before .before .before .before .before .before .before .bump .ensures .under 0 .len ∙ (c .before .before .before .before .before .before .before .before .before .before .before .before .before .before .before .before .before .before .before .before .before .before .mark .ensures .under 0 .len)))
 
 -- src/streams.rt:89:9
 returns-4 : tie.Need-returns-4
 unfolding inner-attribute
 returns-4 c =
-    scoped (c .before .before .before .before .before .before .before .before .before .before .before .before .before .before .before .before .before .before .before .before .before .before .flush-ws .ensures) (c .before .before .before .before .before .before .before .before .before .before .before .before .before .before .before .before .before .before .if1 .left) (both (c .before .before .before .before .before .before .before .before .before .before .before .before .before .before .before .before .bump .ensures .under _) (c .before .before .before .before .before .before .before .before .before .before .before .before .if2 .left) (both (ends (c .before .before .before .before .before .before .before .before .before .before .bump-if .ensures .under _)) (c .before .before .before .before .before .before .if3 .left) (cut (c .before .before .before .before .attribute-stream .ensures .under _) (c .if4 .taken))))
+    scoped (c .before .before .before .before .before .before .before .before .before .before .before .before .before .before .before .before .before .before .before .before .before .before .mark .ensures) (c .before .before .before .before .before .before .before .before .before .before .before .before .before .before .before .before .before .before .if1 .left) (both (c .before .before .before .before .before .before .before .before .before .before .before .before .before .before .before .before .bump .ensures .under _) (c .before .before .before .before .before .before .before .before .before .before .before .before .if2 .left) (both (ends (c .before .before .before .before .before .before .before .before .before .before .bump-if .ensures .under _)) (c .before .before .before .before .before .before .if3 .left) (cut (c .before .before .before .before .attribute-stream .ensures .under _) (c .if4 .taken))))
 
 -- src/streams.rt:91:5
 close-at-requires : tie.Need-close-at-requires
@@ -99,19 +100,19 @@ close-at-requires c κs =
 -- src/streams.rt:70:1
 same-length-5 : tie.Need-same-length-5
 same-length-5 c =
-    c .before .before .close-at .ensures .len ∙ (c .before .before .before .before .before .before .before .before .attribute-stream .ensures .under 0 .len ∙ (c .before .before .before .before .before .before .before .before .before .before .before .before .before .before .bump-if .ensures .under 0 .len ∙ (c .before .before .before .before .before .before .before .before .before .before .before .before .before .before .before .before .before .before .before .before .bump .ensures .under 0 .len ∙ (c .before .before .before .before .before .before .before .before .before .before .before .before .before .before .before .before .before .before .before .before .before .before .before .before .before .before .flush-ws .ensures .under 0 .len))))
+    c .before .before .close-at .ensures .len ∙ (c .before .before .before .before .before .before .before .before .attribute-stream .ensures .under 0 .len ∙ (c .before .before .before .before .before .before .before .before .before .before .before .before .before .before .bump-if .ensures .under 0 .len ∙ (c .before .before .before .before .before .before .before .before .before .before .before .before .before .before .before .before .before .before .before .before .bump .ensures .under 0 .len ∙ (c .before .before .before .before .before .before .before .before .before .before .before .before .before .before .before .before .before .before .before .before .before .before .before .before .before .before .mark .ensures .under 0 .len))))
 
 -- src/streams.rt:70:1
 returns-5 : tie.Need-returns-5
 unfolding inner-attribute
 returns-5 c =
-    scoped (c .before .before .before .before .before .before .before .before .before .before .before .before .before .before .before .before .before .before .before .before .before .before .before .before .before .before .flush-ws .ensures) (c .before .before .before .before .before .before .before .before .before .before .before .before .before .before .before .before .before .before .before .before .before .before .if1 .left) (both (c .before .before .before .before .before .before .before .before .before .before .before .before .before .before .before .before .before .before .before .before .bump .ensures .under _) (c .before .before .before .before .before .before .before .before .before .before .before .before .before .before .before .before .if2 .left) (both (ends (c .before .before .before .before .before .before .before .before .before .before .before .before .before .before .bump-if .ensures .under _)) (c .before .before .before .before .before .before .before .before .before .before .if3 .left) (both (c .before .before .before .before .before .before .before .before .attribute-stream .ensures .under _) (c .before .before .before .before .if4 .left) (c .before .before .close-at .ensures))))
+    scoped (c .before .before .before .before .before .before .before .before .before .before .before .before .before .before .before .before .before .before .before .before .before .before .before .before .before .before .mark .ensures) (c .before .before .before .before .before .before .before .before .before .before .before .before .before .before .before .before .before .before .before .before .before .before .if1 .left) (both (c .before .before .before .before .before .before .before .before .before .before .before .before .before .before .before .before .before .before .before .before .bump .ensures .under _) (c .before .before .before .before .before .before .before .before .before .before .before .before .before .before .before .before .if2 .left) (both (ends (c .before .before .before .before .before .before .before .before .before .before .before .before .before .before .bump-if .ensures .under _)) (c .before .before .before .before .before .before .before .before .before .before .if3 .left) (both (c .before .before .before .before .before .before .before .before .attribute-stream .ensures .under _) (c .before .before .before .before .if4 .left) (c .before .before .close-at .ensures))))
 
 pub inner-attribute-spec : {M : Type 1} → statement M
 inner-attribute-spec =
     tie.close
     (tie.spec
-    flush-ws-requires
+    mark-requires
     same-length
     returns
     bump-requires

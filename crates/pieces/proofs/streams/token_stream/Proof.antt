@@ -8,13 +8,14 @@ use native.Mathlib.Omega.{arith}
 use borrow.Author.Needs.{needs}
 use borrow.Author.Tests.{eq-eqb, ne-eqb}
 use Rattle.definition.specs.Classes.{isPathComponent, isPat, isPatOrRest, isUsePart, isSelectArm}
-use Rattle.definition.specs.Prog.{repeat}
+use Rattle.definition.specs.Modes.{Brace, Range}
+use Rattle.definition.specs.Prog.{mark, repeat}
 use Rattle.definition.specs.Grammar.{token-stream}
-use Rattle.laws.specs.Progress.{path-component-some, use-path-some, object-key-some, glues-some}
-use Rattle.kinds.specs.Laws.{not-eof, at-eof}
+use Rattle.laws.specs.Progress.{path-component-some, use-path-some, object-key-some, glues-some, recovering-some}
+use Rattle.kinds.specs.Laws.{not-eof as none-eof, at-eof}
 use Rattle.tape.specs.View.{Step, Ran, said}
-use Rattle.tape.specs.Steps.{Loop, Onward, fuel, burns, here-few, marked-now, step-marked, both, cut, refusal, ends, if-yes, if-no, look, touch, spot, ask, ask-glued, ask-second, scoped, unscoped, nothing, answered, answered-as, refuses, refused-tape, inv-start, inv-again, inv-end, last, last-cut}
-use Rattle.tape.specs.Counted.{deep, entered, barred, goes-on, goes-some, goes-saw, goes-glued, and-on}
+use Rattle.tape.specs.Steps.{Loop, Onward, fuel, burns, here-few, marked-now, step-marked, held, held-now, followed, follows-len, not-key, both, cut, refusal, ends, if-yes, if-no, look, touch, spot, ask, ask-glued, ask-second, ask-second-as, scoped, unscoped, nothing, answered, answered-as, says, kept, refuses, refused-tape, inv-start, inv-again, inv-end, last, last-cut}
+use Rattle.tape.specs.Counted.{deep, entered, entered-bool, barred, goes-on, goes-some, goes-saw, goes-glued, and-on}
 -- ## The skeleton
 use borrow.Author.Needs.{needs}
 use Rattle.pieces.proofs.streams.token_stream.Statement.{statement}
@@ -23,39 +24,39 @@ use Rattle.pieces.proofs.streams.token_stream.Reads as reads
 use Rattle.pieces.proofs.streams.token_stream.Lts as lts
 use Rattle.pieces.proofs.streams.stream.Reads as stream-reads
 use Rattle.tape.proofs.Tape.close_at.Reads as close-at-reads
-use Rattle.tape.proofs.Tape.flush_ws.Reads as flush-ws-reads
+use Rattle.tape.proofs.Tape.mark.Reads as mark-reads
 
 -- src/streams.rt:39:9
-flush-ws-requires : tie.Need-flush-ws-requires
-flush-ws-requires c κs =
+mark-requires : tie.Need-mark-requires
+mark-requires c κs =
     c .before .before .before .before .pre
 
 -- src/streams.rt:41:9
 same-length : tie.Need-same-length
 same-length c =
-    c .before .before .before .before .flush-ws .ensures .under 0 .len
+    c .before .before .before .before .mark .ensures .under 0 .len
 
 -- src/streams.rt:41:9
 returns : tie.Need-returns
 unfolding token-stream
 returns c =
-    unscoped (c .before .before .before .before .flush-ws .ensures) (c .if1 .taken)
+    unscoped (c .before .before .before .before .mark .ensures) (c .if1 .taken)
 
 -- src/streams.rt:44:5
 stream-requires : tie.Need-stream-requires
 stream-requires c κs =
-    c .before .before .before .before .before .flush-ws .ensures .under 0 .ready (c .before .if1 .left)
+    c .before .before .before .before .before .mark .ensures .under 0 .ready (c .before .if1 .left)
 
 -- src/streams.rt:46:9
 same-length-2 : tie.Need-same-length-2
 same-length-2 c =
-    c .before .before .before .before .stream .ensures .under 0 .len ∙ (c .before .before .before .before .before .before .before .before .before .before .flush-ws .ensures .under 0 .len)
+    c .before .before .before .before .stream .ensures .under 0 .len ∙ (c .before .before .before .before .before .before .before .before .before .before .mark .ensures .under 0 .len)
 
 -- src/streams.rt:46:9
 returns-2 : tie.Need-returns-2
 unfolding token-stream
 returns-2 c =
-    scoped (c .before .before .before .before .before .before .before .before .before .before .flush-ws .ensures) (c .before .before .before .before .before .before .if1 .left) (cut (c .before .before .before .before .stream .ensures .under _) (c .if2 .taken))
+    scoped (c .before .before .before .before .before .before .before .before .before .before .mark .ensures) (c .before .before .before .before .before .before .if1 .left) (cut (c .before .before .before .before .stream .ensures .under _) (c .if2 .taken))
 
 -- src/streams.rt:48:5
 close-at-requires : tie.Need-close-at-requires
@@ -65,19 +66,19 @@ close-at-requires c κs =
 -- src/streams.rt:35:1
 same-length-3 : tie.Need-same-length-3
 same-length-3 c =
-    c .before .before .close-at .ensures .len ∙ (c .before .before .before .before .before .before .before .before .stream .ensures .under 0 .len ∙ (c .before .before .before .before .before .before .before .before .before .before .before .before .before .before .flush-ws .ensures .under 0 .len))
+    c .before .before .close-at .ensures .len ∙ (c .before .before .before .before .before .before .before .before .stream .ensures .under 0 .len ∙ (c .before .before .before .before .before .before .before .before .before .before .before .before .before .before .mark .ensures .under 0 .len))
 
 -- src/streams.rt:35:1
 returns-3 : tie.Need-returns-3
 unfolding token-stream
 returns-3 c =
-    scoped (c .before .before .before .before .before .before .before .before .before .before .before .before .before .before .flush-ws .ensures) (c .before .before .before .before .before .before .before .before .before .before .if1 .left) (both (c .before .before .before .before .before .before .before .before .stream .ensures .under _) (c .before .before .before .before .if2 .left) (c .before .before .close-at .ensures))
+    scoped (c .before .before .before .before .before .before .before .before .before .before .before .before .before .before .mark .ensures) (c .before .before .before .before .before .before .before .before .before .before .if1 .left) (both (c .before .before .before .before .before .before .before .before .stream .ensures .under _) (c .before .before .before .before .if2 .left) (c .before .before .close-at .ensures))
 
 pub token-stream-spec : {M : Type 1} → statement M
 token-stream-spec =
     tie.close
     (tie.spec
-    flush-ws-requires
+    mark-requires
     same-length
     returns
     stream-requires

@@ -11,35 +11,35 @@ use Rattle.tape.proofs.Tape.empty.Tie as tie
 use Rattle.tape.proofs.Tape.empty.Reads as reads
 use Rattle.tape.proofs.Tape.empty.Lts as lts
 use Rattle.tape.proofs.Tape.close_at.Reads as close-at-reads
-use Rattle.tape.proofs.Tape.flush_ws.Reads as flush-ws-reads
+use Rattle.tape.proofs.Tape.mark.Reads as mark-reads
 
 -- src/lib.rt:305:13
-flush-ws-requires : tie.Need-flush-ws-requires
-flush-ws-requires c κs = c .before .before .before .before .pre
+mark-requires : tie.Need-mark-requires
+mark-requires c κs = c .before .before .before .before .pre
 
 -- src/lib.rt:307:13
 same-length : tie.Need-same-length
-same-length c = c .before .before .before .before .flush-ws .ensures .under 0 .len
+same-length c = c .before .before .before .before .mark .ensures .under 0 .len
 
 -- src/lib.rt:307:13
 returns : tie.Need-returns
 unfolding empty
-returns c = unscoped (c .before .before .before .before .flush-ws .ensures) (c .if1 .taken)
+returns c = unscoped (c .before .before .before .before .mark .ensures) (c .if1 .taken)
 
 -- src/lib.rt:310:9
 close-at-requires : tie.Need-close-at-requires
-close-at-requires c κs = (marked-now, c .before .before .before .before .before .flush-ws .ensures .under 0 .ready (c .before .if1 .left))
+close-at-requires c κs = (marked-now, c .before .before .before .before .before .mark .ensures .under 0 .ready (c .before .if1 .left))
 
 -- src/lib.rt:301:5
 same-length-2 : tie.Need-same-length-2
-same-length-2 c = c .before .before .close-at .ensures .len ∙ c .before .before .before .before .before .before .before .before .flush-ws .ensures .under 0 .len
+same-length-2 c = c .before .before .close-at .ensures .len ∙ c .before .before .before .before .before .before .before .before .mark .ensures .under 0 .len
 
 -- src/lib.rt:301:5
 returns-2 : tie.Need-returns-2
 unfolding empty
-returns-2 c = scoped (c .before .before .before .before .before .before .before .before .flush-ws .ensures) (c .before .before .before .before .if1 .left) (c .before .before .close-at .ensures)
+returns-2 c = scoped (c .before .before .before .before .before .before .before .before .mark .ensures) (c .before .before .before .before .if1 .left) (c .before .before .close-at .ensures)
 
 pub empty-spec : {M : Type 1} → statement M
 empty-spec =
     tie.close
-    (tie.spec flush-ws-requires same-length returns close-at-requires same-length-2 returns-2)
+    (tie.spec mark-requires same-length returns close-at-requires same-length-2 returns-2)

@@ -1,5 +1,5 @@
 use Rattle.definition.specs.Tape.{nthKind}
-use Rattle.definition.specs.Classes.{treated}
+use Rattle.definition.specs.Classes.{among, isAssigned, treated}
 use Rattle.laws.specs.Looking.{skipped, next-at, later-at, glued-apart, glued-next, glued-end}
 use lib.ListN.{length, drop, getD, List·getD-eq-default}
 use native.Mathlib.Omega.{arith}
@@ -28,7 +28,7 @@ returns c =
 
 -- src/lib.rt:103:5
 returns-2 : tie.Need-returns-2
-unfolding treated
+unfolding treated isAssigned among
 returns-2 c =
     let ks = c .before .before .args .kinds .now in
     let e : getD ks (c .before .before .args .self .second) 0 ≡ 0 = List·getD-eq-default ks 0 {n = c .before .before .args .self .second} (omega arith) in
