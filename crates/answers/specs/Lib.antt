@@ -3,3 +3,4 @@ pub mod Accepted
 pub mod Count
 pub mod ShutOut
 pub mod OnLine
+pub mod Starred

@@ -64,7 +64,7 @@ abbrev pub Allowed : Case → ℕ → ℕ → ℕ → List ℕ → Type 0
 Allowed c number place count table = Answered (c .entry) (c .kinds) (c .lens) (c .size) (c .limit) number place count table
 
 -- of a case with a known result it is that: number, place, row count, and then the table's elements
-known : (c : Case) {number place count : ℕ} {table : List ℕ} → answered c ≡ promised c → Allowed c number place count table →
+pub known : (c : Case) {number place count : ℕ} {table : List ℕ} → answered c ≡ promised c → Allowed c number place count table →
     _≡_ {A = List ℕ} (number ∷ place ∷ count ∷ table) (promised c)
 unfolding answered
 known c e p = rw (p .number-is, p .place-is, p .rows-is, p .table-is) e

@@ -162,7 +162,7 @@ not-both {x = x} c d z y =
     let after : (u : Unit {0}) → Out (Unit {0}) = λ u. refused (suc (x .number)) 0 in
     omega (arith, ap numberOf (sym (c .passes z after) ∙ d .stops y after))
 
--- any two faults that `check` is allowed are the same
+-- any two refusals that `check` is allowed are the same
 pub only-refusal : {valid : Bool} {ks ls : List ℕ} {r x : Refusal} → Checked valid ks ls r → Checked valid ks ls x → (r .number ≡ x .number) × (r .place ≡ x .place)
 unfolding numberOf placeOf
 only-refusal {valid} {ks} {ls} {r} {x} c d = go (r .number) (x .number) refl refl
