@@ -30,7 +30,8 @@ CUTS = 'crates/grammar/specs/Cuts.antt'
 UNFOLDABLE = set(re.findall(r'^unfoldable pub (\S+) :', open(GRAMMAR).read(), re.M))
 CUT = set(re.findall(r'^unfoldable pub (\S+) :', open(CUTS).read(), re.M)) if os.path.exists(CUTS) else set()
 KINDS = {name: int(number) for name, number in re.findall(r'^(\S+) = (\d+)$', open('crates/definition/specs/Kinds.antt').read(), re.M)}
-NUMBER_TEST = re.compile(r'as-values .*\)((?: \.1){6}) \.0\) 0( → ⊥)?$')
+TAPE = re.search(r'pub struct Tape \{(.*?)\n\}', open('crates/tape/src/lib.rt').read(), re.S).group(1)
+NUMBER_TEST = re.compile(r'as-values .*\)((?: \.1){%d}) \.0\) 0( → ⊥)?$' % re.findall(r'pub (\w+):', TAPE).index('no'))
 LOOKS = ('peek', 'glued', 'peek-second')
 WRAPS = {'take-if': 'ends', 'take-while': 'ends'}
 # the laws of crates/laws/specs/Progress.antt that ask nothing, a class of the next kind, a class of it with the one glued to it; the others ask for a token

@@ -1,4 +1,5 @@
-//! Links the static archive of the proved crate: the one that KROSSTAVEL_ARCHIVE names, or else `target/krosstavel.a` of this repository.
+//! Links the static archive of the proved crate: the one that KROSSTAVEL_ARCHIVE names, or else `target/krosstavel.a` of this repository. What
+//! `tools/archive` wrote beside it of how it was built becomes `BUILD`.
 
 use std::env;
 use std::path::{Path, PathBuf};
@@ -11,7 +12,10 @@ const BESIDE: &str = "../../target/krosstavel.a";
 fn main() {
     println!("cargo:rerun-if-env-changed={NAMED_BY}");
     match archive() {
-        Ok(archive) => link(&archive),
+        Ok(archive) => {
+            link(&archive);
+            tell_build(&archive);
+        }
         Err(why) => {
             eprintln!("\nkrosstavel: {why}; `tools/archive OUT.a` makes one\n");
             std::process::exit(1);
@@ -44,4 +48,14 @@ fn link(archive: &Path) {
     println!("cargo:rerun-if-changed={}", archive.display());
     println!("cargo:rustc-link-search=native={}", folder.display());
     println!("cargo:rustc-link-lib=static:+verbatim={name}");
+}
+
+/// The line beside the archive, if there is one.
+fn tell_build(archive: &Path) {
+    let mut beside = archive.as_os_str().to_owned();
+    beside.push(".build");
+    println!("cargo:rerun-if-changed={}", Path::new(&beside).display());
+    let said = std::fs::read_to_string(&beside).unwrap_or_default();
+    let line = said.lines().next().unwrap_or("built in a way that nothing beside the archive tells");
+    println!("cargo:rustc-env=KROSSTAVEL_BUILD={line}");
 }

@@ -1,5 +1,6 @@
 # What tools/walk.py cannot read off the code and the program of a rule in crates/grammar.
 LAWS = 'use Rattle.grammar.specs.Loops.{Binding, Tightening, operator-goes, nest-goes, chain-goes}'
+IDLE = 'use Rattle.grammar.specs.Idle.{looked-for, idle-op}'
 LOOKED = 'use Rattle.grammar.specs.Looked.{Next, Small, looked, read-as}'
 OPS = 'use Rattle.kinds.specs.Ops.{opOf}'
 MODES = 'use Rattle.kinds.specs.Modes.{braceOf, rangeOf, cxOf}'
@@ -49,6 +50,19 @@ WORDS = {
     },
     'u': {
         'inv': 'Loop (repeat tuple-turn is-tuple) (repeat tuple-turn false) t₀ t kinds lens table₀ table',
+    },
+    # with no operator next, the program would find none, and the code does not ask
+    'operators-next': {
+        'needs': {'returns': 'looks-once _ _ _ (@from-slice .ensures) (@peek .ensures) (@is-binary .ensures) (@is-none .ensures)'},
+        'use': ['use Rattle.grammar.specs.Idle.{looks-once}'],
+    },
+    'oo': {
+        'needs': {
+            'operators-next-requires': '(@pre .1 .1) .looks',
+            'returns': 'if-yes (looked-for _ _ _ (sym (@operators-next .ensures) ∙ @if1 .taken)) (@on .ensures)',
+            'returns-2': 'idle-op _ _ _ (@pre .1 .1) _ (sym (@operators-next .ensures) ∙ @if1 .left)',
+        },
+        'use': [IDLE],
     },
     # the next operator goes round
     'on': {'use': [LOOKED]},

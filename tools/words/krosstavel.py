@@ -10,7 +10,7 @@ def entry(name, use, value, valid, treated=''):
     return {
         'needs': {
             'returns': f'entry-refused {call} (@if1 .taken) (@refuse .ensures)',
-            'begin-requires': '@check .ensures .sized (@if1 .left)',
+            'begin-requires': f'(limit-few ({value}) (@args .limit) ({valid}) (@check .ensures) (@if1 .left), @check .ensures .sized (@if1 .left))',
             f'{rule}-requires': f'(marked-start (@args .table .now) (@begin .ensures), {treated}@begin .ensures .ready (@args .table .now))',
             'finish-requires': f'fitting (@{rule} .ensures)',
             'returns-2': f'entry-parsed {call} (@if1 .left) (@begin .ensures) (@{rule} .ensures) (@finish .ensures)',
@@ -20,7 +20,7 @@ def entry(name, use, value, valid, treated=''):
         'use': [
             'use Rattle.definition.specs.Parse.{%s, program, isLimit}' % name,
             'use Rattle.entry.specs.Whole.{entry-refused, entry-parsed, fitting}',
-            'use Rattle.krosstavel.specs.Starting.{marked-start, %s}' % use,
+            'use Rattle.krosstavel.specs.Starting.{marked-start, limit-few, %s}' % use,
         ],
     }
 

@@ -46,7 +46,7 @@
 //! # Costs and limits
 //!
 //! At most 65,535 tokens of 16,777,216 bytes in all, and a depth limit of 1 to 256. A call takes no memory of its own but stack: at depth 256
-//! 763 KiB were seen at the most (a thread that has less must give a smaller limit). [`room`] says how large a table is large enough.
+//! 270 KiB were seen at the most (a thread that has less must give a smaller limit). [`room`] says how large a table is large enough.
 
 #![deny(unsafe_code)]
 #![warn(missing_docs)]
@@ -68,6 +68,9 @@ pub const MOST_BYTES: u64 = 16_777_216;
 
 /// The largest depth limit.
 pub const DEEPEST: u32 = 256;
+
+/// For which processor and how the linked archive was built, in one line.
+pub const BUILD: &str = env!("KROSSTAVEL_BUILD");
 
 /// What a call answers, as the archive lays it out. On acceptance number and place are 0; on a refusal the row count is.
 #[repr(C)]

@@ -105,9 +105,9 @@ pub accepted-ends : (t : Tape) (tab : List ℕ) {tab′ : List ℕ} → t .no �
     tab′ ≡ take (4 * t .rows) tab ++ replicate (length tab - 4 * t .rows) 0 → Ends (outOf tt t tab) (length tab) (Tree (t .rows)) tab′
 unfolding outcomeOf rowsOf tableOf
 accepted-ends t tab z h e =
-    rw (went-on (t .no) (t .place) (tt {0}) (stateOf t tab) z)
+    rw (went-on (t .no) (t .byte) (tt {0}) (stateOf t tab) z)
     (ends (ap Tree (sym (length-rows (t .rows) tab))) (rw (flat-rows (t .rows) tab h, length-take-le (4 * t .rows) tab h) e))
 
-pub stopped-ends : (t : Tape) (tab : List ℕ) {r : Outcome} {tab′ : List ℕ} → (t .no ≡ 0 → ⊥) → Ends (refused (t .no) (t .place)) (length tab) r tab′ →
+pub stopped-ends : (t : Tape) (tab : List ℕ) {r : Outcome} {tab′ : List ℕ} → (t .no ≡ 0 → ⊥) → Ends (refused (t .no) (t .byte)) (length tab) r tab′ →
     Ends (outOf tt t tab) (length tab) r tab′
-stopped-ends t tab z e = rw (stopped (t .no) (t .place) (tt {0}) (stateOf t tab) z) e
+stopped-ends t tab z e = rw (stopped (t .no) (t .byte) (tt {0}) (stateOf t tab) z) e

@@ -134,7 +134,7 @@ pub fn check(valid: bool, kinds: &[u8], lens: &[u32]) -> Refusal
 
 // The tape before the first token, ready for any table. (The lengths are read only later: here they bound what the tape will count.)
 pub fn begin(kinds: &[u8], lens: &[u32], limit: u32) -> Tape
-    requires { ⌜ Sized (now kinds) (now lens) ⌝ }
+    requires { ⌜ (limit ≤ 65535) × Sized (now kinds) (now lens) ⌝ }
     ensures { λ r. ⌜ Starts limit r (now (kinds .entry)) (now (lens .entry)) ⌝ }
 {
     Tape::begin(kinds, limit)
@@ -173,7 +173,7 @@ pub fn finish(t: Tape, table: &mut [u32]) -> Outcome
     ensures { λ r. ⌜ Ends (outOf tt t (now (table .entry))) (length (now (table .entry))) r (now (table .exit)) ⌝ }
 {
     if t.no != 0 {
-        return refuse(t.no, t.place, table);
+        return refuse(t.no as u32, t.byte, table);
     }
     let rows = t.rows;
     zero_from(table, 4 * rows);

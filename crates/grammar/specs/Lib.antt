@@ -1,3 +1,4 @@
 pub mod Looked
 pub mod Loops
 pub mod Cuts
+pub mod Idle

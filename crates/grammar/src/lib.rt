@@ -84,6 +84,7 @@ use self::steps::field_link;
 use self::steps::finish;
 use self::steps::macro_call;
 use self::steps::operator;
+use self::steps::operators_next;
 use self::steps::recover;
 use self::steps::stmt_item;
 use self::sv as stmt_expr;
@@ -605,7 +606,7 @@ fn oo(
     requires { ⌜ Marked c tape (now table) × Ready tape (now kinds) (now lens) (now table) ⌝ }
     ensures { λ r. ⌜ Step c (outer-op (marking c) kind (braceOf brace) (binaryOf binary) (cxOf cx)) (r .ans) tape r (now (kinds .entry)) (now (lens .entry)) (now (table .entry)) (now (table .exit)) ⌝ }
 {
-    if kinds::modes::is_binary(binary) {
+    if operators_next(binary, tape, kinds) {
         return outer_binary(tape, c, kind, brace, cx, kinds, lens, table);
     }
     let mut t = tape;

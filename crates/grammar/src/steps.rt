@@ -3,12 +3,14 @@ ghost use mathlib.Core.Path.{_≡_};
 ghost use Prim.Native.Nat.{_<_};
 ghost use Rattle.definition.specs.Grammar.{field-link, finish as finishProg, macro-call, operator as operatorProg, recover as recoverProg, recovery as recoveryProg, stmt-item};
 ghost use Rattle.definition.specs.Prog.{mark as marking};
-ghost use Rattle.kinds.specs.Modes.{cxOf};
+ghost use Rattle.kinds.specs.Modes.{binaryOf, cxOf};
 ghost use Rattle.kinds.specs.Ops.{opOf};
 ghost use Rattle.kinds.specs.Matchers.{matcherOf};
-ghost use Rattle.tape.specs.View.{said, Ready, Marked, Held, Step, Follows, Ran};
+ghost use Rattle.tape.specs.View.{said, Looks, Ready, Marked, Held, Step, Follows, Ran};
 ghost use Rattle.grammar.specs.Looked.{Next, Small};
+ghost use Rattle.grammar.specs.Idle.{operatorsNext};
 use kinds::matcher::Matcher;
+use kinds::modes::Binary;
 use kinds::modes::ExprCx;
 use kinds::operators::Op;
 use kinds::*;
@@ -135,6 +137,16 @@ pub fn operator(tape: Tape, op: Op, kinds: &[u8], lens: &[u32], table: &mut [u32
         return t;
     }
     t.close_at(c, EXPR_OPERATOR, kinds, lens, table)
+}
+
+// outer_expr_with (703): whether operators are looked for and one is next. With none next, expr_binary would say so at once and leave everything as it is,
+// unless no entry is left for it: then it has to be asked, and refuses.
+pub fn operators_next(binary: Binary, tape: Tape, kinds: &[u8]) -> bool
+    requires { ⌜ Looks tape (now kinds) ⌝ }
+    ensures { λ r. ⌜ r ≡ operatorsNext (binaryOf binary) tape (now (kinds .entry)) ⌝ }
+{
+    let op = kinds::operators::from_slice(tape.peek(kinds), 0);
+    kinds::modes::is_binary(binary) & (!kinds::operators::is_none(op) | (tape.left == 0))
 }
 
 // recover of StmtCx (143).

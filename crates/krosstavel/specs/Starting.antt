@@ -11,7 +11,7 @@ use Rattle.definition.specs.Kinds.{K-Other}
 use Rattle.definition.specs.Classes.{isAssigned, treated, isToken, isTrivia, isSome}
 use Rattle.definition.specs.Tape.{State, ok, guard, startOf, leavesLen}
 use Rattle.definition.specs.Prog.{Prog}
-use Rattle.definition.specs.Parse.{start, admitted, root, exprs, format, isLimit, isEntry}
+use Rattle.definition.specs.Parse.{Entry, start, admitted, root, exprs, format, isLimit, isEntry}
 use Rattle.laws.specs.Progress.{not-eof}
 use Rattle.laws.specs.Sizes.{Based}
 use Rattle.tape.specs.View.{Marked, Step}
@@ -70,6 +70,13 @@ and-second : (a b : Bool) → (a && b) ≡ true → b ≡ true
 and-second true b h = h
 and-second false true h = refl
 and-second false false h = h
+
+-- a limit that is let pass fits the tape's count of entries
+pub limit-few : (e : Entry) (limit : ℕ) {valid : Bool} {ks ls : List ℕ} {a : Refusal} → valid ≡ (isLimit limit && isEntry e) → Checked valid ks ls a → a .number ≡ 0 → limit ≤ 65535
+unfolding isLimit
+limit-few e limit v c z =
+    let h : (leb 1 limit && leb limit 256) ≡ true = and-first (leb 1 limit && leb limit 256) (isEntry e) (sym v ∙ checked-valid c z) in
+    omega (arith, leb-true limit 256 (and-second (leb 1 limit) (leb limit 256) h))
 
 pub record Fine (separator : ℕ) : Type 0 where
   pub some : 1 ≤ separator

@@ -70,7 +70,7 @@ byte-fits {t} {ls = ls} g = omega (arith, g .fits .byte, g .sized .small, total-
 module _ (t : Tape) (ks ls tab : List ℕ) where
   pub leaf-wrote : (r : Tape) (tab′ : List ℕ) → t .at < length ks → t .rows < capacity (length tab) →
       tab′ ≡ sets tab (4 * t .rows) (getD ks (t .at) 0 ∷ 0 ∷ t .byte ∷ getD ls (t .at) 0 ∷ []) →
-      r ≡ record { at = t .at + 1; next = t .next; second = t .second; byte = t .byte + getD ls (t .at) 0; rows = t .rows + 1; left = t .left; no = 0; place = 0; ans = 0 } →
+      r ≡ record { at = t .at + 1; next = t .next; second = t .second; rows = t .rows + 1; byte = t .byte + getD ls (t .at) 0; left = t .left; no = 0; ans = 0 } →
       Leaf t r ks ls tab tab′
   unfolding leafAt choose guard pickOut wroteLeaf elements
   leaf-wrote r tab′ h c e q =
@@ -86,7 +86,7 @@ module _ (t : Tape) (ks ls tab : List ℕ) where
       }
 
   pub leaf-full : (r : Tape) → t .at < length ks → capacity (length tab) ≤ t .rows → t .next ≡ skipped (t .at) ks →
-      r ≡ record { at = t .at; next = t .next; second = t .second; byte = t .byte; rows = t .rows; left = t .left; no = 11; place = t .next; ans = 0 } →
+      r ≡ record { at = t .at; next = t .next; second = t .second; rows = t .rows; byte = t .next; left = t .left; no = 11; ans = 0 } →
       Leaf t r ks ls tab tab
   unfolding leafAt choose guard pickOut hereAt skipped
   leaf-full r h c n q =
@@ -114,7 +114,7 @@ module _ {t : Tape} {ks ls tab : List ℕ} (g : Ready t ks ls tab) {c : ℕ} (b 
 
   pub close-wrote : (k st : ℕ) (r : Tape) (tab′ : List ℕ) → st ≡ startOf (drop c (rowsIn (t .rows) tab)) (t .byte) → t .rows < capacity (length tab) →
       tab′ ≡ sets tab (4 * t .rows) (k ∷ (t .rows - c) ∷ st ∷ (t .byte - st) ∷ []) →
-      r ≡ record { at = t .at; next = t .next; second = t .second; byte = t .byte; rows = t .rows + 1; left = t .left; no = 0; place = 0; ans = 0 } →
+      r ≡ record { at = t .at; next = t .next; second = t .second; rows = t .rows + 1; byte = t .byte; left = t .left; no = 0; ans = 0 } →
       Step c (close (mark c) k) tt t r ks ls tab tab′
   unfolding run eval choose closeAt guard pickOut wroteNode elements
   close-wrote k st r tab′ e h w q =
@@ -125,13 +125,13 @@ module _ {t : Tape} {ks ls tab : List ℕ} (g : Ready t ks ls tab) {c : ℕ} (b 
       let looks : Looks r ks = rw q record { end = g .looks .end; few = g .looks .few; next = g .looks .next; second = g .looks .second } in
       record {
         is = is;
-        ready = λ z. record { going = z; sized = g .sized; looks = looks; fits = rw len (fits-then (inOf ks ls tab) c (stateOf t tab) (stateOf r tab′) _ tt (fits grammar (inOf ks ls tab) (t .left) c (close (mark c) k) (stateOf t tab)) (sym is ∙ went-on (r .no) (r .place) tt (stateOf r tab′) z) (g .fits)) };
+        ready = λ z. record { going = z; sized = g .sized; looks = looks; fits = rw len (fits-then (inOf ks ls tab) c (stateOf t tab) (stateOf r tab′) _ tt (fits grammar (inOf ks ls tab) (t .left) c (close (mark c) k) (stateOf t tab)) (sym is ∙ went-on (r .no) (r .byte) tt (stateOf r tab′) z) (g .fits)) };
         len = len;
         left = rw q;
       }
 
   pub close-full : (k : ℕ) (r : Tape) → capacity (length tab) ≤ t .rows →
-      r ≡ record { at = t .at; next = t .next; second = t .second; byte = t .byte; rows = t .rows; left = t .left; no = 11; place = t .next; ans = 0 } →
+      r ≡ record { at = t .at; next = t .next; second = t .second; rows = t .rows; byte = t .next; left = t .left; no = 11; ans = 0 } →
       Step c (close (mark c) k) tt t r ks ls tab tab
   unfolding run eval choose closeAt guard pickOut hereAt skipped
   close-full k r h q =
@@ -173,7 +173,7 @@ module _ {ks ls tab₀ tab tab′ : List ℕ} {t₀ t r : Tape} (v : Flushing ks
   unfolding andThen
   flushing-go z =
       let a : r .at ≡ t .at + 1 = l .at z in
-      let o : leafAt (inOf ks ls tab) (stateOf t tab) ≡ ok tt (stateOf r tab′) = sym (l .is) ∙ went-on (r .no) (r .place) tt (stateOf r tab′) z in
+      let o : leafAt (inOf ks ls tab) (stateOf t tab) ≡ ok tt (stateOf r tab′) = sym (l .is) ∙ went-on (r .no) (r .byte) tt (stateOf r tab′) z in
       let s : skipped (t .at + 1) ks ≡ skipped (t .at) ks = skipped-in ks (t .at) (omega (arith, v .ready .looks .next)) in
       let next : r .next ≡ skipped (r .at) ks = l .next ∙ (v .ready .looks .next ∙ (sym s ∙ ap (λ (x : ℕ). skipped x ks) (sym a))) in
       record {
@@ -190,7 +190,7 @@ module _ {ks ls tab₀ tab tab′ : List ℕ} {t₀ t r : Tape} (v : Flushing ks
         };
         le = omega (arith, l .next);
         next = l .next ∙ v .next;
-        rest = sym ((leaves-one (inOf ks ls tab₀) (t .at) (t .next) (stateOf t tab) h ∙ (rw (leaf-here, went-on (r .no) (r .place) (tt {0}) (stateOf r tab′) z, sym a, sym (l .next))))) ∙ v .rest;
+        rest = sym ((leaves-one (inOf ks ls tab₀) (t .at) (t .next) (stateOf t tab) h ∙ (rw (leaf-here, went-on (r .no) (r .byte) (tt {0}) (stateOf r tab′) z, sym a, sym (l .next))))) ∙ v .rest;
         len = l .len ∙ v .len;
         left = l .left ∙ v .left;
       }
@@ -207,7 +207,7 @@ module _ {ks ls tab₀ tab : List ℕ} {t₀ t : Tape} (g : Ready t₀ ks ls tab
   pub flushing-stop : {tab′ : List ℕ} {r : Tape} → Leaf t r ks ls tab tab′ → t .at < t .next → (r .no ≡ 0 → ⊥) → Ran flush tt t₀ r ks ls tab₀ tab′
   unfolding andThen
   flushing-stop {tab′} {r} l h z =
-      let o = stopped (r .no) (r .place) (tt {0}) (stateOf r tab′) z in
+      let o = stopped (r .no) (r .byte) (tt {0}) (stateOf r tab′) z in
       record {
         under = λ m.
             record {
@@ -225,7 +225,7 @@ module _ {ks ls tab₀ tab : List ℕ} {t₀ t : Tape} (g : Ready t₀ ks ls tab
       record {
         under = λ m.
             record {
-              is = went-on (t .no) (t .place) tt (stateOf t tab) (v .ready .going) ∙ sym (flush-is m g ∙ (sym (v .rest) ∙ (rw e)));
+              is = went-on (t .no) (t .byte) tt (stateOf t tab) (v .ready .going) ∙ sym (flush-is m g ∙ (sym (v .rest) ∙ (rw e)));
               ready = λ y. v .ready;
               len = v .len;
               left = v .left;
@@ -252,7 +252,7 @@ module _ {ks ls tab₀ tab : List ℕ} {t₀ t : Tape} (g : Ready t₀ ks ls tab
       record {
         under = λ m.
             record {
-              is = stopped (t .no) (t .place) tt (stateOf t tab) z ∙ sym (bump-is (inOf ks ls tab₀) (t₀ .left) m (stateOf t₀ tab₀) ∙ (rw (step-no (w .under m) z)));
+              is = stopped (t .no) (t .byte) tt (stateOf t tab) z ∙ sym (bump-is (inOf ks ls tab₀) (t₀ .left) m (stateOf t₀ tab₀) ∙ (rw (step-no (w .under m) z)));
               ready = λ y. absurd (z y);
               len = w .under m .len;
               left = w .under m .left;
@@ -271,7 +271,7 @@ module _ {ks ls tab₀ tab : List ℕ} {t₀ t : Tape} (g : Ready t₀ ks ls tab
       record {
         under = λ m.
             record {
-              is = went-on (t .no) (t .place) tt (stateOf t tab) z ∙ sym (bump-on m z ∙ (rw (le-ltb (t .at) (length ks) n)));
+              is = went-on (t .no) (t .byte) tt (stateOf t tab) z ∙ sym (bump-on m z ∙ (rw (le-ltb (t .at) (length ks) n)));
               ready = w .under m .ready;
               len = w .under m .len;
               left = w .under m .left;
@@ -293,12 +293,12 @@ module _ {ks ls tab₀ tab : List ℕ} {t₀ t : Tape} (g : Ready t₀ ks ls tab
 
     -- the places move on
     pub bump-done : (x : Tape) → r .no ≡ 0 → t .next < length ks →
-        x ≡ record { at = r .at; next = r .second; second = skipped (r .second + 1) ks; byte = r .byte; rows = r .rows; left = r .left; no = r .no; place = r .place; ans = r .ans } →
+        x ≡ record { at = r .at; next = r .second; second = skipped (r .second + 1) ks; rows = r .rows; byte = r .byte; left = r .left; no = r .no; ans = r .ans } →
         Ran bump tt t₀ x ks ls tab₀ tab′
     bump-done x y h q =
         let a : r .at ≡ t .next + 1 = omega (arith, l .at y, flushed-at g w z) in
         let R = w .under 0 .ready z in
-        let o : leafAt (inOf ks ls tab) (stateOf t tab) ≡ ok tt (stateOf r tab′) = sym (l .is) ∙ went-on (r .no) (r .place) tt (stateOf r tab′) y in
+        let o : leafAt (inOf ks ls tab) (stateOf t tab) ≡ ok tt (stateOf r tab′) = sym (l .is) ∙ went-on (r .no) (r .byte) tt (stateOf r tab′) y in
         rw q
         record {
           under = λ m.

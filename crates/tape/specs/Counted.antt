@@ -21,7 +21,7 @@ use Rattle.tape.specs.declared.Tape.{Tape}
 
 -- the tape with n entries left
 abbrev pub depth : ℕ → Tape → Tape
-depth n t = record { at = t .at; next = t .next; second = t .second; byte = t .byte; rows = t .rows; left = n; no = t .no; place = t .place; ans = t .ans }
+depth n t = record { at = t .at; next = t .next; second = t .second; rows = t .rows; byte = t .byte; left = n; no = t .no; ans = t .ans }
 
 pub deep : {n : ℕ} {t : Tape} {ks ls tab : List ℕ} → Ready t ks ls tab → Ready (depth n t) ks ls tab
 deep g =
@@ -55,7 +55,7 @@ module _ {m : ℕ} {ks ls : List ℕ} {t : Tape} {tab : List ℕ} where
   barred {q = q} {a = a} {r = r} g h e =
       let z : r .no ≡ 0 → ⊥ = refused-tape e (λ y. omega arith) in
       record {
-        is = stopped (r .no) (r .place) a (stateOf r tab) z ∙
+        is = stopped (r .no) (r .byte) a (stateOf r tab) z ∙
             ((rw e) ∙ (ap (λ (x : ℕ). refused 10 x) (g .looks .next) ∙ ap (λ (x : ℕ). call grammar (inOf ks ls tab) x q (stateOf t tab)) (sym h)));
         ready = λ y. absurd (z y);
         len = refl;

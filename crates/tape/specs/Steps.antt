@@ -24,7 +24,7 @@ use Rattle.tape.specs.declared.Tape.{Tape}
 
 -- the tape with another answer
 abbrev pub answer : ℕ → Tape → Tape
-answer n t = record { at = t .at; next = t .next; second = t .second; byte = t .byte; rows = t .rows; left = t .left; no = t .no; place = t .place; ans = n }
+answer n t = record { at = t .at; next = t .next; second = t .second; rows = t .rows; byte = t .byte; left = t .left; no = t .no; ans = n }
 
 pub ready-answer : {n : ℕ} {t : Tape} {ks ls tab : List ℕ} → Ready t ks ls tab → Ready (answer n t) ks ls tab
 ready-answer g =
@@ -73,10 +73,10 @@ module _ {ks ls : List ℕ} {m : ℕ} where
   module _ {A : Type 0} {p : Prog A} {a : A} {t r : Tape} {tab tab′ : List ℕ} (w : Step m p a t r ks ls tab tab′) where
     -- where the program ends, or how it is refused
     pub step-ok : r .no ≡ 0 → run (inOf ks ls tab) (t .left) m p (stateOf t tab) ≡ ok a (stateOf r tab′)
-    step-ok z = sym (w .is) ∙ went-on (r .no) (r .place) a (stateOf r tab′) z
+    step-ok z = sym (w .is) ∙ went-on (r .no) (r .byte) a (stateOf r tab′) z
 
-    pub step-no : (r .no ≡ 0 → ⊥) → run (inOf ks ls tab) (t .left) m p (stateOf t tab) ≡ refused (r .no) (r .place)
-    step-no z = sym (w .is) ∙ stopped (r .no) (r .place) a (stateOf r tab′) z
+    pub step-no : (r .no ≡ 0 → ⊥) → run (inOf ks ls tab) (t .left) m p (stateOf t tab) ≡ refused (r .no) (r .byte)
+    step-no z = sym (w .is) ∙ stopped (r .no) (r .byte) a (stateOf r tab′) z
 
     -- what was written, and that the mark stays one
     pub step-went : r .no ≡ 0 → Went m (stateOf t tab) (stateOf r tab′)
@@ -90,7 +90,7 @@ module _ {ks ls : List ℕ} {m : ℕ} where
     pub refusal : {b : A} → (r .no ≡ 0 → ⊥) → Step m p b t r ks ls tab tab′
     refusal {b} z =
         record {
-          is = stopped (r .no) (r .place) b (stateOf r tab′) z ∙ sym (step-no z);
+          is = stopped (r .no) (r .byte) b (stateOf r tab′) z ∙ sym (step-no z);
           ready = λ y. absurd (z y);
           len = w .len;
           left = w .left;
@@ -104,7 +104,7 @@ module _ {ks ls : List ℕ} {m : ℕ} where
     pub cut : {B : Type 0} {f : A → Prog B} {b : B} → (r .no ≡ 0 → ⊥) → Step m (seq p f) b t r ks ls tab tab′
     cut {f = f} {b = b} z =
         record {
-          is = stopped (r .no) (r .place) b (stateOf r tab′) z ∙ sym (then-no (inOf ks ls tab) (t .left) m p f (stateOf t tab) (step-no z));
+          is = stopped (r .no) (r .byte) b (stateOf r tab′) z ∙ sym (then-no (inOf ks ls tab) (t .left) m p f (stateOf t tab) (step-no z));
           ready = λ y. absurd (z y);
           len = w .len;
           left = w .left;
@@ -179,13 +179,13 @@ module _ {ks ls : List ℕ} {m : ℕ} where
   pub nothing : {A : Type 0} {a : A} {t : Tape} {tab : List ℕ} → Ready t ks ls tab → Step m (done a) a t t ks ls tab tab
   unfolding run eval
   nothing {a = a} {t = t} {tab = tab} g =
-      record { is = went-on (t .no) (t .place) a (stateOf t tab) (g .going); ready = λ y. g; len = refl; left = refl }
+      record { is = went-on (t .no) (t .byte) a (stateOf t tab) (g .going); ready = λ y. g; len = refl; left = refl }
 
   -- the answer is put down, and nothing else
   pub answered : {A : Type 0} {a : A} {t : Tape} {tab : List ℕ} {n : ℕ} → Ready t ks ls tab → Step m (done a) a t (answer n t) ks ls tab tab
   unfolding run eval
   answered {a = a} {t = t} {tab = tab} {n = n} g =
-      record { is = went-on (t .no) (t .place) a (stateOf t tab) (g .going); ready = λ y. ready-answer g; len = refl; left = refl }
+      record { is = went-on (t .no) (t .byte) a (stateOf t tab) (g .going); ready = λ y. ready-answer g; len = refl; left = refl }
 
   -- the same where the code's answer is another form of the program's
   pub answered-as : {A : Type 0} {a b : A} {t : Tape} {tab : List ℕ} {n : ℕ} → a ≡ b → Ready t ks ls tab → Step m (done a) b t (answer n t) ks ls tab tab
@@ -214,11 +214,11 @@ module _ {ks ls : List ℕ} {m : ℕ} where
       go (suc n) e = cut w (λ z. omega arith)
 
   -- a refusal of the code's own
-  pub halt : {A : Type 0} {n pl : ℕ} {a : A} {t r : Tape} {tab : List ℕ} → r .no ≡ n → r .place ≡ pl → r .left ≡ t .left → (n ≡ 0 → ⊥) → Step m (stop n pl) a t r ks ls tab tab
+  pub halt : {A : Type 0} {n pl : ℕ} {a : A} {t r : Tape} {tab : List ℕ} → r .no ≡ n → r .byte ≡ pl → r .left ≡ t .left → (n ≡ 0 → ⊥) → Step m (stop n pl) a t r ks ls tab tab
   unfolding run eval
   halt {n = n} {pl = pl} {a = a} {r = r} {tab = tab} e f l z =
       record {
-        is = stopped (r .no) (r .place) a (stateOf r tab) (λ y. z (sym e ∙ y)) ∙ (ap (λ (x : ℕ). refused x (r .place)) e ∙ ap (λ (x : ℕ). refused n x) f);
+        is = stopped (r .no) (r .byte) a (stateOf r tab) (λ y. z (sym e ∙ y)) ∙ (ap (λ (x : ℕ). refused x (r .byte)) e ∙ ap (λ (x : ℕ). refused n x) f);
         ready = λ y. absurd (z (sym e ∙ y));
         len = refl;
         left = l;
@@ -226,10 +226,10 @@ module _ {ks ls : List ℕ} {m : ℕ} where
 
 -- the tape that `refuse` makes
 abbrev pub refusing : ℕ → ℕ → Tape → Tape
-refusing n pl t = record { at = t .at; next = t .next; second = t .second; byte = t .byte; rows = t .rows; left = t .left; no = n; place = pl; ans = 0 }
+refusing n pl t = record { at = t .at; next = t .next; second = t .second; rows = t .rows; byte = pl; left = t .left; no = n; ans = 0 }
 
 pub refuses : {A : Type 0} {m n pl : ℕ} {a : A} {t r : Tape} {ks ls tab : List ℕ} → r ≡ refusing n pl t → (n ≡ 0 → ⊥) → Step m (stop n pl) a t r ks ls tab tab
-refuses e z = halt (ap (λ (x : Tape). x .no) e) (ap (λ (x : Tape). x .place) e) (ap (λ (x : Tape). x .left) e) z
+refuses e z = halt (ap (λ (x : Tape). x .no) e) (ap (λ (x : Tape). x .byte) e) (ap (λ (x : Tape). x .left) e) z
 
 pub refused-tape : {x r : Tape} → r ≡ x → (x .no ≡ 0 → ⊥) → r .no ≡ 0 → ⊥
 refused-tape e z y = z (sym (ap (λ (x : Tape). x .no) e) ∙ y)
@@ -264,7 +264,7 @@ module _ {A : Type 0} {t r : Tape} {ks ls tab tab′ : List ℕ} (w : Ran flush 
             };
       }
 
-  scope-no : (q : Mark → Prog A) (m : ℕ) → (r .no ≡ 0 → ⊥) → run (inOf ks ls tab) (t .left) m (scope q) (stateOf t tab) ≡ refused (r .no) (r .place)
+  scope-no : (q : Mark → Prog A) (m : ℕ) → (r .no ≡ 0 → ⊥) → run (inOf ks ls tab) (t .left) m (scope q) (stateOf t tab) ≡ refused (r .no) (r .byte)
   unfolding run eval andThen
   scope-no q m z = rw (step-no (w .under m) z)
 
@@ -274,7 +274,7 @@ module _ {A : Type 0} {t r : Tape} {ks ls tab tab′ : List ℕ} (w : Ran flush 
       record {
         under = λ m.
             record {
-              is = stopped (r .no) (r .place) a (stateOf r tab′) z ∙ sym (scope-no q m z);
+              is = stopped (r .no) (r .byte) a (stateOf r tab′) z ∙ sym (scope-no q m z);
               ready = λ y. absurd (z y);
               len = w .under m .len;
               left = w .under m .left;
@@ -357,7 +357,7 @@ module _ {ks ls : List ℕ} {m : ℕ} where
     unfolding run turn andThen
     last {b = b} w z =
         record {
-          is = went-on (r .no) (r .place) b (stateOf r tab′) z ∙
+          is = went-on (r .no) (r .byte) b (stateOf r tab′) z ∙
               sym (unroll (inOf ks ls tab) (call grammar (inOf ks ls tab) (t .left)) m f a (stateOf t tab) ∙ (rw (step-ok w z)));
           ready = w .ready;
           len = w .len;
@@ -369,7 +369,7 @@ module _ {ks ls : List ℕ} {m : ℕ} where
     unfolding run turn andThen
     last-cut {b = b} w z =
         record {
-          is = stopped (r .no) (r .place) b (stateOf r tab′) z ∙
+          is = stopped (r .no) (r .byte) b (stateOf r tab′) z ∙
               sym (unroll (inOf ks ls tab) (call grammar (inOf ks ls tab) (t .left)) m f a (stateOf t tab) ∙ (rw (step-no w z)));
           ready = λ y. absurd (z y);
           len = w .len;

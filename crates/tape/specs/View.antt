@@ -35,13 +35,13 @@ rowsIn (suc n) tab = rowsIn n tab ++ (rowAt n tab ∷ [])
 abbrev pub stateOf : Tape → List ℕ → State
 stateOf t tab = record { at = t .at; byte = t .byte; out = rowsIn (t .rows) tab }
 
--- a number other than 0 is a refusal
+-- a number other than 0 is a refusal, and its place stands where the byte position stood
 unfoldable pub pickOut : {A : Type 0} → ℕ → ℕ → A → State → Out A
 pickOut zero pl a s = ok a s
 pickOut (suc n) pl a s = refused (suc n) pl
 
 abbrev pub outOf : {A : Type 0} → A → Tape → List ℕ → Out A
-outOf a t tab = pickOut (t .no) (t .place) a (stateOf t tab)
+outOf a t tab = pickOut (t .no) (t .byte) a (stateOf t tab)
 
 -- an answer of yes or no
 abbrev pub said : Tape → Bool
@@ -50,7 +50,7 @@ said t = eqb (t .ans) 1
 -- the tape with yes or no for an answer
 abbrev pub saying : Bool → Tape → Tape
 saying b t =
-    record { at = t .at; next = t .next; second = t .second; byte = t .byte; rows = t .rows; left = t .left; no = t .no; place = t .place; ans = cond b 1 0 }
+    record { at = t .at; next = t .next; second = t .second; rows = t .rows; byte = t .byte; left = t .left; no = t .no; ans = cond b 1 0 }
 
 -- ## What is asked
 

@@ -12,16 +12,16 @@ ghost use Rattle.kinds.specs.Ops.{opOf};
 ghost use Rattle.tape.specs.View.{rowsIn, said, saying, Looks, Ready, Marked, Begins, Leaf, Step, Ran};
 use kinds::operators::Op;
 
-// The state. After each call that writes, `no` is tested: 0 goes on, and another number is a refusal at `place`.
+// The state. After each call that writes, `no` is tested: 0 goes on, and another number is a refusal, at the place that `byte` then holds.
+// It is copied at each call that is not inlined, so it is short: no field that another can stand for, the widest first, and no padding (docs/BENCH.md has what that won).
 pub struct Tape {
     pub at: usize, // the next token not yet written, trivia included
     pub next: usize, // the next one that is no trivia ("here"), or the token count
     pub second: usize, // the next after that one, or past the end
-    pub byte: u32, // where the token `at` starts
     pub rows: usize, // rows written
-    pub left: u32, // entries of the counted rules that are left
-    pub no: u32, // refusal number
-    pub place: u32, // refusal place
+    pub byte: u32, // where the token `at` starts; once refused, the refusal's place
+    pub left: u16, // entries of the counted rules that are left
+    pub no: u8, // refusal number
     pub ans: u8, // what the last call answered: a kind, or 1 for yes and 0 for no
 }
 
@@ -70,7 +70,7 @@ fn write_row(table: &mut [u32], rows: usize, kind: u32, back: u32, start: u32, l
 impl Tape {
     // The tape before the first token, with `limit` entries left.
     pub fn begin(kinds: &[u8], limit: u32) -> Tape
-        requires { ⌜ length (now kinds) ≤ 65535 ⌝ }
+        requires { ⌜ (limit ≤ 65535) × (length (now kinds) ≤ 65535) ⌝ }
         ensures { λ r. ⌜ Begins limit r (now (kinds .entry)) ⌝ }
     {
         let next = skip(0, kinds);
@@ -78,11 +78,10 @@ impl Tape {
             at: 0,
             next,
             second: skip(next + 1, kinds),
-            byte: 0,
             rows: 0,
-            left: limit,
+            byte: 0,
+            left: limit as u16,
             no: 0,
-            place: 0,
             ans: 0,
         }
     }
@@ -127,19 +126,18 @@ impl Tape {
     }
 
     // The same tape, refused.
-    pub fn refuse(self, no: u32, place: usize) -> Tape
+    pub fn refuse(self, no: u8, place: usize) -> Tape
         requires { ⌜ place ≤ 65535 ⌝ }
-        ensures { λ r. ⌜ r ≡ record { at = self .at; next = self .next; second = self .second; byte = self .byte; rows = self .rows; left = self .left; no = no; place = place; ans = 0 } ⌝ }
+        ensures { λ r. ⌜ r ≡ record { at = self .at; next = self .next; second = self .second; rows = self .rows; byte = place; left = self .left; no = no; ans = 0 } ⌝ }
     {
         Tape {
             at: self.at,
             next: self.next,
             second: self.second,
-            byte: self.byte,
             rows: self.rows,
+            byte: place as u32,
             left: self.left,
             no,
-            place: place as u32,
             ans: 0,
         }
     }
@@ -171,11 +169,10 @@ impl Tape {
                 at: at + 1,
                 next: self.next,
                 second: self.second,
-                byte: self.byte + len,
                 rows: rows + 1,
+                byte: self.byte + len,
                 left: self.left,
                 no: 0,
-                place: 0,
                 ans: 0,
             };
         }
@@ -248,11 +245,10 @@ impl Tape {
                 at: self.at,
                 next: self.next,
                 second: self.second,
-                byte: self.byte,
                 rows: rows + 1,
+                byte: self.byte,
                 left: self.left,
                 no: 0,
-                place: 0,
                 ans: 0,
             };
         }

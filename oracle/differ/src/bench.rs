@@ -4,7 +4,7 @@
 use std::time::{Duration, Instant};
 
 use oracle::case::Case;
-use oracle::{coverage, Entry, MOST_TOKENS};
+use oracle::{coverage, Entry, KEEPS_NEXT, MOST_TOKENS};
 
 use crate::lists::LISTS;
 use crate::native;
@@ -24,17 +24,18 @@ pub fn command(args: &[&str]) -> Done {
     let options = Options::read(args, &["--rounds"])?;
     let rounds = options.get("--rounds").unwrap_or(ROUNDS).max(1);
 
+    print_machine();
     println!("{MOST_TOKENS} tokens, tables cleared beforehand, best of {rounds}, in milliseconds; growth: from half as many tokens");
     println!(
         "{:26}{:>9}{:>9}{:>11}{:>8}{:>10}{:>11}",
         "list", "rows", "oracle", "krosstavel", "ratio", "growth", "of oracle"
     );
-    let mut worst: f64 = 0.0;
+    let mut ratios = Vec::new();
     for list in &LISTS {
         let measured = Measured::of(&list.case(MOST_TOKENS), rounds)?;
         let half = Measured::of(&list.case(MOST_TOKENS / 2), rounds)?;
         print_line(list.name, &measured, &half);
-        worst = worst.max(measured.ratio());
+        ratios.push(measured.ratio());
     }
     let (full, half) = (cleared(MOST_TOKENS), cleared(MOST_TOKENS / 2));
     let measured = Measured::of(&full, rounds)?;
@@ -43,8 +44,43 @@ pub fn command(args: &[&str]) -> Done {
         &measured,
         &Measured::of(&half, rounds)?,
     );
-    println!("the largest ratio is {:.2}", worst.max(measured.ratio()));
+    ratios.push(measured.ratio());
+    print_sum(&ratios);
     Ok(())
+}
+
+/// What it runs on, and how both sides were built.
+fn print_machine() {
+    let about = std::fs::read_to_string("/proc/cpuinfo").unwrap_or_default();
+    let model = about.lines().find_map(|line| {
+        let (what, value) = line.split_once(':')?;
+        ["model name", "CPU part"]
+            .contains(&what.trim())
+            .then_some(value.trim())
+    });
+    println!(
+        "machine: {}, {}",
+        std::env::consts::ARCH,
+        model.unwrap_or("of a kind that it does not tell")
+    );
+    let baseline = if KEEPS_NEXT {
+        "a parser that keeps what is next"
+    } else {
+        "the scope's tape word by word"
+    };
+    println!("oracle: {baseline}; cargo's release profile, one codegen unit");
+    println!("krosstavel: {}", krosstavel::BUILD);
+}
+
+fn print_sum(ratios: &[f64]) {
+    let up_to = |most: f64| ratios.iter().filter(|ratio| **ratio <= most).count();
+    println!(
+        "the largest ratio is {:.2}; of {}, {} are at most 1.00 and {} at most 0.80",
+        ratios.iter().copied().fold(0.0, f64::max),
+        ratios.len(),
+        up_to(1.004),
+        up_to(0.804)
+    );
 }
 
 /// Refused at once, so that only the clearing of a roomy table is left.

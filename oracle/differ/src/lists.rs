@@ -8,45 +8,93 @@ use oracle::{text, Entry};
 pub struct List {
     pub name: &'static str,
     entry: Entry,
-    make: fn(usize) -> Tokens,
+    make: Make,
+}
+
+/// How a list is made.
+enum Make {
+    /// A beginning, then a text again and again.
+    Turns(&'static str, &'static str),
+    /// One token again and again.
+    One(&'static str),
+    By(fn(usize) -> Tokens),
 }
 
 type Tokens = (Vec<u8>, Vec<u32>);
 
 const SPACE: u8 = 14;
 
-/// Every list of the benchmark.
-pub const LISTS: [List; 14] = [
-    list("mixed programs", Entry::Root, mixed_programs),
-    list("a + a ..", Entry::Exprs, |n| between("a", " + a", n)),
-    list("operator mix", Entry::Exprs, |n| between("a", MIX, n)),
-    list("operator mix, no spaces", Entry::Exprs, |n| {
+/// Every list of the benchmark: programs and guards, each construct again and
+/// again, and what strains one thing alone (rows, depth, trivia, one long token run).
+pub const LISTS: [List; 35] = [
+    by("mixed programs", Entry::Root, mixed_programs),
+    turns("guards", Entry::Exprs, "", "a & b == 0 && (c || d < e),"),
+    turns("a + a ..", Entry::Exprs, "a", " + a"),
+    turns("operator mix", Entry::Exprs, "a", MIX),
+    by("operator mix, no spaces", Entry::Exprs, |n| {
         between("a", &MIX.replace(' ', ""), n)
     }),
-    list("let let ..", Entry::Root, |n| {
-        repeated("let ", n, |k| k != SPACE)
-    }),
-    list("one path", Entry::Exprs, |n| repeated("a", n, |_| true)),
-    list("one path with ::", Entry::Exprs, |n| between("a", "::a", n)),
-    list("chains", Entry::Exprs, |n| {
-        between("a", ".b(c)?[1].await.2", n)
-    }),
-    list("spaces", Entry::Root, |n| repeated(" ", n, |_| true)),
-    list("one recovery", Entry::Root, |n| repeated("}", n, |_| true)),
-    list("one token stream", Entry::Exprs, one_stream),
-    list("nested parentheses", Entry::Exprs, parentheses),
-    list("250 || then spaces", Entry::Root, |n| {
+    turns("unary operators", Entry::Exprs, "", "!a,-b,*c,&d,"),
+    turns("ranges", Entry::Exprs, "", "a..b,c..=d,..,..e,"),
+    turns("literals", Entry::Exprs, "", "1,\"a\",'b',true,"),
+    turns("calls", Entry::Root, "", "f(a,b,c(d));"),
+    turns("a.b(1)?;", Entry::Root, "", "a.b(1)?;"),
+    turns("chains", Entry::Exprs, "a", ".b(c)?[1].await.2"),
+    turns("closures", Entry::Exprs, "", "|a,b| a+b,"),
+    turns("objects", Entry::Exprs, "", "#{a:1,b:c},S{a:1},"),
+    turns("macros", Entry::Root, "", "m!(a,b);n![c];"),
+    turns("statements", Entry::Root, "", "let a = b;"),
+    turns("patterns", Entry::Root, "", "let (a,[b,..],P{c:d})=e;"),
+    turns("conditions", Entry::Root, "", CONDITIONS),
+    turns("loops", Entry::Root, "", "for a in 0..10 {b(a);}"),
+    turns("matches", Entry::Root, "", MATCHES),
+    turns("items", Entry::Root, "", ITEMS),
+    turns("uses", Entry::Root, "", "use a::b::{c,d::{e,f},g};"),
+    turns("attributes", Entry::Root, "", "#[a(b)] #[c] let a=1;"),
+    one("let let ..", Entry::Root, "let"),
+    one("for for ..", Entry::Root, "for"),
+    one("loop loop ..", Entry::Root, "loop"),
+    one("pub pub ..", Entry::Root, "pub"),
+    one("one path", Entry::Exprs, "a"),
+    turns("one path with ::", Entry::Exprs, "a", "::a"),
+    one("spaces", Entry::Root, " "),
+    one("one recovery", Entry::Root, "}"),
+    by("one token stream", Entry::Exprs, one_stream),
+    by("nested parentheses", Entry::Exprs, parentheses),
+    by("250 || then spaces", Entry::Root, |n| {
         between(&"||".repeat(250), " ", n)
     }),
-    list("250 || a then spaces", Entry::Exprs, |n| {
+    by("250 || a then spaces", Entry::Exprs, |n| {
         between(&format!("{}a", "||".repeat(250)), " ", n)
     }),
+    // Each of the 250 looks past the `;` for an operator of two tokens.
+    by("250 || a; then spaces", Entry::Root, |n| {
+        between(&format!("{}a;", "||".repeat(250)), " ", n)
+    }),
 ];
+
+const CONDITIONS: &str = "if a==b {c} else if d {e} else {f}";
+const MATCHES: &str = "match a {1=>b,[x,y] if c=>{d},_=>e}";
+const ITEMS: &str =
+    "pub fn f(a,b){a+b} struct S{a,b} enum E{A,B(a),C{x}} mod m{} impl S{} const X=1;";
 
 /// Every binding that may follow itself, the tightest first, and `==` once.
 const MIX: &str = " as b * a / b + a - b << a & b ^ a | b == a && b || a";
 
-const fn list(name: &'static str, entry: Entry, make: fn(usize) -> Tokens) -> List {
+type Name = &'static str;
+
+const fn turns(name: Name, entry: Entry, begin: &'static str, turn: &'static str) -> List {
+    let make = Make::Turns(begin, turn);
+    List { name, entry, make }
+}
+
+const fn one(name: Name, entry: Entry, token: &'static str) -> List {
+    let make = Make::One(token);
+    List { name, entry, make }
+}
+
+const fn by(name: Name, entry: Entry, make: fn(usize) -> Tokens) -> List {
+    let make = Make::By(make);
     List { name, entry, make }
 }
 
@@ -54,7 +102,11 @@ impl List {
     /// The list with so many tokens and a table that is just large enough, with
     /// odd elements at its end.
     pub fn case(&self, tokens: usize) -> Case {
-        let (kinds, lens) = (self.make)(tokens);
+        let (kinds, lens) = match self.make {
+            Make::Turns(begin, turn) => between(begin, turn, tokens),
+            Make::One(token) => repeated(token, tokens),
+            Make::By(make) => make(tokens),
+        };
         assert_eq!(kinds.len(), tokens, "{}", self.name);
         let mut case = Case::roomy(self.entry, kinds, lens);
         case.elements *= 2;
@@ -76,14 +128,10 @@ fn between(begin: &str, turn: &str, tokens: usize) -> Tokens {
     filled((kinds, lens), SPACE, tokens)
 }
 
-/// The kept tokens of a text again and again. Where a text of many would be
-/// read as one long token, one of it is repeated instead.
-fn repeated(text: &str, tokens: usize, keep: fn(u8) -> bool) -> Tokens {
-    let (kinds, _) = text::tokens(text);
-    let kinds: Vec<u8> = kinds.into_iter().filter(|kind| keep(*kind)).collect();
-    let kinds: Vec<u8> = kinds.into_iter().cycle().take(tokens).collect();
-    let lens = vec![1; tokens];
-    (kinds, lens)
+/// The one token of a text again and again.
+fn repeated(text: &str, tokens: usize) -> Tokens {
+    let (kinds, lens) = text::tokens(text);
+    (kinds.repeat(tokens), lens.repeat(tokens))
 }
 
 fn filled((mut kinds, mut lens): Tokens, with: u8, tokens: usize) -> Tokens {

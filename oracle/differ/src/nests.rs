@@ -11,7 +11,7 @@ use crate::pair::{ask, Side};
 type Nest = (Entry, &'static str, &'static str, &'static str);
 
 /// Every way for a rule to come back to itself that adds depth.
-const NESTS: [Nest; 34] = [
+const NESTS: [Nest; 37] = [
     (Entry::Exprs, "", "(", "a"),
     (Entry::Exprs, "", "(a+", "a"),
     (Entry::Exprs, "", "a*(a+", "a"),
@@ -38,6 +38,9 @@ const NESTS: [Nest; 34] = [
     (Entry::Exprs, "", "match a{_ if ", "a"),
     (Entry::Exprs, "", "select{_=", "a"),
     (Entry::Exprs, "", "loop{", "a"),
+    (Entry::Exprs, "", "a.b(", "a"),
+    (Entry::Exprs, "", "a=b+", "a"),
+    (Entry::Exprs, "", "|a|{", "a"),
     (Entry::Root, "", "{", ""),
     (Entry::Root, "", "fn a(){", ""),
     (Entry::Root, "", "if a{", ""),
@@ -84,9 +87,11 @@ pub fn print_stacks() {
                 used.0, used.1
             );
         }
+        let (pair, used) = worst_pair();
+        println!("stack: {used:9} krosstavel, bytes, for {pair}.., the most of two rules in turn");
         println!(
             "stack: at depth {DEEPEST} at most {} KiB (krosstavel), {} KiB (oracle), of {} KiB",
-            most.1.div_ceil(1024),
+            most.1.max(used).div_ceil(1024),
             most.0.div_ceil(1024),
             native::MEASURED_STACK / 1024
         );
@@ -94,6 +99,26 @@ pub fn print_stacks() {
     let thread = std::thread::Builder::new().stack_size(native::MEASURED_STACK);
     let running = thread.spawn(measured).expect("a thread");
     running.join().expect("the stack is large enough");
+}
+
+/// Of every two nests in turn, in both entries, those for which the proved parser
+/// uses the most stack. Turns that do not fit each other end early, and are few.
+fn worst_pair() -> (String, usize) {
+    let mut worst = (String::new(), 0);
+    for entry in [Entry::Root, Entry::Exprs] {
+        for (_, before, one, _) in NESTS {
+            for (_, _, other, _) in NESTS {
+                let turn = format!("{one}{other}");
+                let text = format!("{before} {}", turn.repeat(DEEPEST as usize));
+                let (kinds, lens) = text::tokens(&text);
+                let used = stack_of_side(native::parse, &Case::roomy(entry, kinds, lens));
+                if used > worst.1 {
+                    worst = (format!("{entry:?} {before} {turn}"), used);
+                }
+            }
+        }
+    }
+    worst
 }
 
 /// Bytes of stack that the oracle and the proved parser use for a nest, at its

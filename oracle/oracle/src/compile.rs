@@ -1,11 +1,8 @@
 //! What the grammar asks of `crate::compile`.
 
-/// A refusal on its way out.
+/// A refusal on its way out. Its number and place stay in the parser.
 #[derive(Debug, Clone, Copy, PartialEq, Eq)]
-pub struct Error {
-    pub number: u32,
-    pub place: u32,
-}
+pub struct Error;
 
 /// The one error that the grammar itself names.
 pub enum ErrorKind {

@@ -2,6 +2,7 @@
 
 mod parser;
 
+pub use parser::KEEPS_NEXT;
 pub(crate) use parser::{Checkpoint, Parser};
 
 #[allow(

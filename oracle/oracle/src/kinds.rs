@@ -263,6 +263,17 @@ impl Kind {
     }
 }
 
+/// [`Kind::of_token`] as a table: one load where the parser decodes.
+pub(crate) static OF_TOKEN: [Kind; 256] = {
+    let mut table = [Kind::Eof; 256];
+    let mut number = 0;
+    while number < 256 {
+        table[number] = Kind::of_token(number as u8);
+        number += 1;
+    }
+    table
+};
+
 /// Number and name of every kind, by number: the list of `docs/KINDS.md`.
 pub fn list() -> Vec<(u8, &'static str)> {
     let mut all: Vec<_> = TOKENS.iter().chain(NODES).copied().collect();

@@ -20,6 +20,8 @@ pub mod text;
 pub mod tree;
 pub mod vectors;
 
+pub use grammar::KEEPS_NEXT;
+
 use grammar::Parser;
 use kinds::Kind;
 
@@ -69,12 +71,15 @@ pub fn parse(
     limit: u32,
 ) -> Answer {
     let done = match refused(entry, kinds, lens, separator, limit) {
-        Some((number, place)) => Err(compile::Error { number, place }),
+        Some(refused) => Err(refused),
         None => {
             let mut p = Parser::new(kinds, lens, table, limit);
             // Past 127 only where the separator is ignored.
             let separator = Kind::of_token(u8::try_from(separator).unwrap_or(0));
-            grammar::run(&mut p, entry, separator).map(|()| p.rows())
+            match grammar::run(&mut p, entry, separator) {
+                Ok(()) => Ok(p.rows()),
+                Err(compile::Error) => Err(p.refused()),
+            }
         }
     };
 
@@ -87,7 +92,7 @@ pub fn parse(
                 rows: rows as u32,
             }
         }
-        Err(compile::Error { number, place }) => {
+        Err((number, place)) => {
             table.fill(0);
             Answer {
                 number,

@@ -9,7 +9,7 @@ begin-requires : tie.Need-begin-requires
 begin-requires c κs = search needs
 
 returns : tie.Need-returns
-returns c = starts (c .before .before .before .pre) (c .begin .ensures)
+returns c = starts (c .before .before .before .pre .1) (c .begin .ensures)
 
 pub begin-spec : {M : Type 1} → statement M
 begin-spec = tie.close (tie.spec begin-requires returns)

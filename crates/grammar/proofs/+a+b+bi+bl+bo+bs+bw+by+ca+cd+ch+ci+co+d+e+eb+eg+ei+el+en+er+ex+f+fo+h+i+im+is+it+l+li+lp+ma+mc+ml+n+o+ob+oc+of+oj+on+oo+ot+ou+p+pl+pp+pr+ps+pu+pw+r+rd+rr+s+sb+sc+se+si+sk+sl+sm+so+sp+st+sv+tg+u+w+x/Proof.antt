@@ -18,6 +18,7 @@ use Rattle.tape.specs.View.{Step, Ran, said}
 use Rattle.tape.specs.Steps.{Loop, Onward, fuel, burns, here-few, marked-now, step-marked, held, held-now, followed, follows-len, not-key, both, cut, refusal, ends, if-yes, if-no, look, touch, spot, ask, ask-glued, ask-second, ask-second-as, scoped, unscoped, nothing, answered, answered-as, says, kept, refuses, refused-tape, inv-start, inv-again, inv-end, last, last-cut}
 use Rattle.tape.specs.Counted.{deep, entered, entered-bool, barred, goes-on, goes-some, goes-saw, goes-glued, and-on}
 use Rattle.grammar.specs.Cuts.{outer-assign, outer-chain, outer-op, outer-rest, primary-last, primary-sign, primary-word, stmt-inner, stmt-kind, stmt-outer}
+use Rattle.grammar.specs.Idle.{looked-for, idle-op}
 use Rattle.grammar.specs.Looked.{Next, Small, looked, read-as}
 use Rattle.grammar.specs.Loops.{Binding, Tightening, operator-goes, nest-goes, chain-goes}
 use Rattle.kinds.specs.Modes.{braceOf, rangeOf, cxOf}
@@ -243,6 +244,7 @@ use Rattle.grammar.proofs.steps.field_link.Reads as field-link-reads
 use Rattle.grammar.proofs.steps.finish.Reads as finish-reads
 use Rattle.grammar.proofs.steps.macro_call.Reads as macro-call-reads
 use Rattle.grammar.proofs.steps.operator.Reads as operator-reads
+use Rattle.grammar.proofs.steps.operators_next.Reads as operators-next-reads
 use Rattle.grammar.proofs.steps.recover.Reads as recover-reads
 use Rattle.grammar.proofs.steps.stmt_item.Reads as stmt-item-reads
 use Rattle.kinds.proofs.classes.braced_by.Reads as braced-by-reads
@@ -260,7 +262,6 @@ use Rattle.kinds.proofs.classes.linked.Reads as linked-reads
 use Rattle.kinds.proofs.classes.named_const.Reads as named-const-reads
 use Rattle.kinds.proofs.classes.ranged_by.Reads as ranged-by-reads
 use Rattle.kinds.proofs.modes.are_exprs.Reads as are-exprs-reads
-use Rattle.kinds.proofs.modes.is_binary.Reads as is-binary-reads
 use Rattle.kinds.proofs.modes.is_ranged.Reads as is-ranged-reads
 use Rattle.kinds.proofs.operators.clashes.Reads as clashes-reads
 use Rattle.kinds.proofs.operators.from_slice.Reads as from-slice-reads
@@ -7897,19 +7898,19 @@ on-returns-3 t c =
     ask-second-as (c .before .before .before .before .before .before .before .before .before .before .peek .ensures) (c .before .before .before .before .before .before .before .before .before .peek-second .ensures) (c .before .before .before .before .before .before .before .before .from-slice .ensures .is) (both (c .before .before .before .before .before .before .bi .ensures .under _) (c .before .before .if1 .left) (if-no (ne-eqb _ _ (c .if2 .left)) (answered (c .before .before .before .before .before .before .bi .ensures .under 0 .ready (c .before .before .if1 .left)))))
 
 -- src/lib.rt:608:8
-oo-is-binary-requires : (t : ℕ) → oo-lts.Need-is-binary-requires (
-  is-binary-reads.Asked,
-  is-binary-reads.Learnt,
+oo-operators-next-requires : (t : ℕ) → oo-lts.Need-operators-next-requires (
+  operators-next-reads.Asked,
+  operators-next-reads.Learnt,
   on-below t,
   on.Post,
 ) (oo-at t) oo.Post
-oo-is-binary-requires t c κs =
-    search needs
+oo-operators-next-requires t c κs =
+    (c .before .before .before .pre .1 .1) .looks
 
 -- src/lib.rt:609:9
 oo-on-requires : (t : ℕ) → oo-lts.Need-on-requires (
-  is-binary-reads.Asked,
-  is-binary-reads.Learnt,
+  operators-next-reads.Asked,
+  operators-next-reads.Learnt,
   on-below t,
   on.Post,
 ) (oo-at t) oo.Post
@@ -7918,8 +7919,8 @@ oo-on-requires t c κs =
 
 -- src/lib.rt:609:9
 oo-same-length : (t : ℕ) → oo-lts.Need-same-length (
-  is-binary-reads.Asked,
-  is-binary-reads.Learnt,
+  operators-next-reads.Asked,
+  operators-next-reads.Learnt,
   on-below t,
   on.Post,
 ) (oo-at t) oo.Post
@@ -7928,25 +7929,25 @@ oo-same-length t c =
 
 -- src/lib.rt:609:9
 oo-returns : (t : ℕ) → oo-lts.Need-returns (
-  is-binary-reads.Asked,
-  is-binary-reads.Learnt,
+  operators-next-reads.Asked,
+  operators-next-reads.Learnt,
   on-below t,
   on.Post,
 ) (oo-at t) oo.Post
 unfolding outer-op
 oo-returns t c =
-    if-yes (sym (c .before .before .before .before .before .is-binary .ensures) ∙ c .before .before .before .before .if1 .taken) (c .before .before .on .ensures)
+    if-yes (looked-for _ _ _ (sym (c .before .before .before .before .before .operators-next .ensures) ∙ c .before .before .before .before .if1 .taken)) (c .before .before .on .ensures)
 
 -- src/lib.rt:594:1
 oo-returns-2 : (t : ℕ) → oo-lts.Need-returns-2 (
-  is-binary-reads.Asked,
-  is-binary-reads.Learnt,
+  operators-next-reads.Asked,
+  operators-next-reads.Learnt,
   on-below t,
   on.Post,
 ) (oo-at t) oo.Post
 unfolding outer-op
 oo-returns-2 t c =
-    if-no (sym (c .before .is-binary .ensures) ∙ c .if1 .left) (answered (c .before .before .before .before .before .pre .1 .1))
+    idle-op _ _ _ (c .before .before .before .before .before .pre .1 .1) _ (sym (c .before .operators-next .ensures) ∙ c .if1 .left)
 
 -- src/lib.rt:582:9
 ot-oo-requires : (t : ℕ) → ot-lts.Need-oo-requires (
@@ -18465,10 +18466,10 @@ pub +a+b+bi+bl+bo+bs+bw+by+ca+cd+ch+ci+co+d+e+eb+eg+ei+el+en+er+ex+f+fo+h+i+im+i
     (on-same-length-3 t)
     (on-returns-3 t))
     (λ t. oo-lts.spec
-    (is-binary-reads.Asked, is-binary-reads.Learnt, on-below t, on.Post)
+    (operators-next-reads.Asked, operators-next-reads.Learnt, on-below t, on.Post)
     (oo-at t)
     oo.Post
-    (oo-is-binary-requires t)
+    (oo-operators-next-requires t)
     (oo-on-requires t)
     (oo-same-length t)
     (oo-returns t)

@@ -2,7 +2,7 @@
 -- Assumes nothing.
 use Rattle.definition.specs.Parse.{exprs, program, isLimit}
 use Rattle.entry.specs.Whole.{entry-refused, entry-parsed, fitting}
-use Rattle.krosstavel.specs.Starting.{marked-start, checked-valid, fine, treated-some}
+use Rattle.krosstavel.specs.Starting.{marked-start, limit-few, checked-valid, fine, treated-some}
 use mathlib.Core.Path.{sym, _∙_}
 use native.Mathlib.Omega.{arith}
 -- ## The skeleton
@@ -47,7 +47,7 @@ returns c =
 -- src/lib.rt:110:9
 begin-requires : tie.Need-begin-requires
 begin-requires c κs =
-    c .before .before .check .ensures .sized (c .if1 .left)
+    (limit-few (exprs (c .before .before .before .before .before .before .before .before .args .separator)) (c .before .before .before .before .before .before .before .before .args .limit) (rw (c .before .before .before .before .is-limit .ensures, c .before .before .before .is-separator .ensures)) (c .before .before .check .ensures) (c .if1 .left), c .before .before .check .ensures .sized (c .if1 .left))
 
 -- src/lib.rt:111:27
 cast-exprs-rule : tie.Need-cast-exprs-rule

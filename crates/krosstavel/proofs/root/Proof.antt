@@ -2,7 +2,7 @@
 -- Assumes nothing.
 use Rattle.definition.specs.Parse.{root, program, isLimit}
 use Rattle.entry.specs.Whole.{entry-refused, entry-parsed, fitting}
-use Rattle.krosstavel.specs.Starting.{marked-start, valid-root}
+use Rattle.krosstavel.specs.Starting.{marked-start, limit-few, valid-root}
 -- ## The skeleton
 use borrow.Author.Needs.{needs}
 use Rattle.krosstavel.proofs.root.Statement.{statement}
@@ -40,7 +40,7 @@ returns c =
 -- src/lib.rt:87:9
 begin-requires : tie.Need-begin-requires
 begin-requires c κs =
-    c .before .before .check .ensures .sized (c .if1 .left)
+    (limit-few (root) (c .before .before .before .before .before .before .before .args .limit) (valid-root (c .before .before .before .before .before .before .before .args .limit) (c .before .before .before .is-limit .ensures)) (c .before .before .check .ensures) (c .if1 .left), c .before .before .check .ensures .sized (c .if1 .left))
 
 -- src/lib.rt:88:9
 root-rule-requires : tie.Need-root-rule-requires

@@ -21,10 +21,13 @@ add-skip c = omega (arith, c .skip .ensures, skipped-le (c .before .before .args
 skip-requires-2 : tie.Need-skip-requires-2
 skip-requires-2 c κs = search needs
 
+cast-t6 : tie.Need-cast-t6
+cast-t6 c = search needs
+
 -- src/lib.rt:72:5
 returns : tie.Need-returns
 returns c =
-    record { at = refl; byte = refl; rows = refl; left = refl; going = refl; looks = record { end = omega arith; few = c .before .before .before .pre; next = c .before .skip .ensures; second = c .skip2 .ensures } }
+    record { at = refl; byte = refl; rows = refl; left = refl; going = refl; looks = record { end = omega arith; few = c .before .before .before .pre .1; next = c .before .skip .ensures; second = c .skip2 .ensures } }
 
 pub begin-spec : {M : Type 1} → statement M
-begin-spec = tie.close (tie.spec skip-requires add-skip skip-requires-2 returns)
+begin-spec = tie.close (tie.spec skip-requires add-skip skip-requires-2 cast-t6 returns)

@@ -53,7 +53,7 @@ same-length-3 c = c .before .before .before .before .before .leaf .ensures .len 
 -- src/lib.rt:204:13
 returns-3 : tie.Need-returns-3
 returns-3 c =
-    bump-done (c .before .before .before .before .before .before .before .before .before .before .before .before .before .before .before .before .before .before .pre) (c .before .before .before .before .before .before .before .before .before .before .before .before .before .flush-ws .ensures) (c .before .before .before .before .before .leaf .ensures) (c .before .before .before .before .before .before .before .before .before .if1 .left) _ (c .before .if3 .left) (c .before .before .before .before .before .before .before .if2 .taken) (ap (λ (n : ℕ). record { at = c .before .before .before .before .before .leaf .result .at; next = c .before .before .before .before .before .leaf .result .second; second = n; byte = c .before .before .before .before .before .leaf .result .byte; rows = c .before .before .before .before .before .leaf .result .rows; left = c .before .before .before .before .before .leaf .result .left; no = c .before .before .before .before .before .leaf .result .no; place = c .before .before .before .before .before .leaf .result .place; ans = c .before .before .before .before .before .leaf .result .ans }) (c .skip .ensures))
+    bump-done (c .before .before .before .before .before .before .before .before .before .before .before .before .before .before .before .before .before .before .pre) (c .before .before .before .before .before .before .before .before .before .before .before .before .before .flush-ws .ensures) (c .before .before .before .before .before .leaf .ensures) (c .before .before .before .before .before .before .before .before .before .if1 .left) _ (c .before .if3 .left) (c .before .before .before .before .before .before .before .if2 .taken) (ap (λ (n : ℕ). record { at = c .before .before .before .before .before .leaf .result .at; next = c .before .before .before .before .before .leaf .result .second; second = n; rows = c .before .before .before .before .before .leaf .result .rows; byte = c .before .before .before .before .before .leaf .result .byte; left = c .before .before .before .before .before .leaf .result .left; no = c .before .before .before .before .before .leaf .result .no; ans = c .before .before .before .before .before .leaf .result .ans }) (c .skip .ensures))
 
 -- src/lib.rt:188:5
 same-length-4 : tie.Need-same-length-4

@@ -78,8 +78,8 @@ leaf-spec =
     cast-write-row
     write-row-requires
     add-t11
-    add-t13
     add-t19
+    add-t13
     same-length
     returns
     refuse-requires
