@@ -1,15 +1,17 @@
-# inlined.awk MODULE.ll: which functions of the module are to stand where they are called, one `NAME,alwaysinline` a line, as LLVM's -forceattrs-csv-path takes them.
-# tools/archive builds by it, and says why it changes nothing that is proved.
+# inlined.awk -v staying=FILE MODULE.ll: which functions of the module are to stand where they are called, one `NAME,alwaysinline` a line, as LLVM's -forceattrs-csv-path
+# takes them. FILE gets those of them that are in a cycle of calls even so: one of each cycle stays a function too. tools/archive builds by it, and says why it changes nothing that is
+# proved.
 #
 # The rule, from the calls alone. A function stands where it is called
 #   1. if it is in no cycle of calls: the tape and the kinds go into all rules, and so do attributes, modifiers and labels, which mostly do nothing;
 #   2. if one place alone calls it: the pieces of a rule go into the rule;
-#   3. else if it does not come back to itself, and its copies together are short (at most `most` lines of the module): `expr`, `block`, `condition` and the like.
-# What stays a function is a rule of grammar.rs that goes into itself (stmt, outer_expr_with, expr_binary, pat, path, item_use) or that is long and often
-# called (expr_with). The exported functions stay, whatever they are.
+#   3. else if its copies together are short (at most `most` lines of the module), unless it comes back to itself in a cycle that it shares with others of this kind: `expr`,
+#      `block`, `condition` and the like, and `path` and `item_use`, which go into nothing but themselves.
+# What stays a function is a rule of grammar.rs that goes into itself and into others (outer_expr_with, expr_binary) or is too long to be copied (stmt, pat, expr_with).
+# The exported functions stay, whatever they are.
 #
-# Copies that are added, in lines: 9,200 for the last that is taken (parenthesized), 162,954 for the first that is not (expr_with). docs/BENCH.md has what other bounds give.
-BEGIN { most = 20000 }
+# Copies that are added, in lines: 28,525 for the last that is taken (path), 73,884 for the first that is not (stmt). docs/BENCH.md has what other bounds give.
+BEGIN { most = 40000 }
 
 # the name behind the @ of a definition or a call
 function name_in(text,    rest) {
@@ -62,6 +64,18 @@ function length_of(name,    n, sum) {
     return known[name] = sum
 }
 
+# whether no other function that is called at several places is in its cycle
+function alone(name,    n) {
+    for (n = 1; n <= left; n++)
+        if (open[n] != name && comes(name, open[n], all) && comes(open[n], name, all)) return 0
+    return 1
+}
+
+function print_cycle(name,    n) {
+    for (n = 1; n <= count; n++)
+        if (comes(name, functions[n], all) && comes(functions[n], name, all)) print functions[n] >staying
+}
+
 END {
     for (n = 1; n <= count; n++) all[functions[n]]
     for (n = 1; n <= count; n++) {
@@ -78,7 +92,10 @@ END {
             if (!(open[n] in tried) && (least == "" || added[open[n]] < added[least])) least = open[n]
         if (least == "") break
         tried[least]
-        if (added[least] <= most && !comes(least, least, inlined)) inlined[least]
+        own = comes(least, least, inlined)
+        if (added[least] > most || (own && !alone(least))) continue
+        inlined[least]
+        if (own) print_cycle(least)
     }
     for (n = 1; n <= count; n++) if (functions[n] in inlined) print functions[n] ",alwaysinline"
 }

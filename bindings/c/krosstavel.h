@@ -10,7 +10,7 @@
  *     cc program.c krosstavel.a -o program
  *
  * Costs: on every list that was measured, time grew as the tokens did. No call takes memory of its own, keeps a pointer, has a state between calls or touches anything
- * but its arguments, so calls on different tables may run at the same time. Of stack, 270 KiB were seen at the most, at a depth limit of 256: a thread
+ * but its arguments, so calls on different tables may run at the same time. Of stack, 340 KiB were seen at the most, at a depth limit of 256: a thread
  * that has less must give a smaller limit.
  */
 #ifndef KROSSTAVEL_H

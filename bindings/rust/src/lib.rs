@@ -46,7 +46,7 @@
 //! # Costs and limits
 //!
 //! At most 65,535 tokens of 16,777,216 bytes in all, and a depth limit of 1 to 256. A call takes no memory of its own but stack: at depth 256
-//! 270 KiB were seen at the most (a thread that has less must give a smaller limit). [`room`] says how large a table is large enough.
+//! 340 KiB were seen at the most (a thread that has less must give a smaller limit). [`room`] says how large a table is large enough.
 
 #![deny(unsafe_code)]
 #![warn(missing_docs)]

@@ -103,3 +103,9 @@ fn kinds_go_both_ways() {
     assert_eq!(Kind::of_number(0), None);
     assert_eq!(Kind::of_number(256 + 1), None);
 }
+
+/// The archive that is linked tells for which processor it was built: this one.
+#[test]
+fn the_build_is_told() {
+    assert!(krosstavel::BUILD.starts_with(std::env::consts::ARCH), "{}", krosstavel::BUILD);
+}
