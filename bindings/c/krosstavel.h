@@ -4,8 +4,8 @@
  * Tokens go in as a list of kind numbers and a list of their byte lengths. The syntax tree comes out as rows of four numbers in a table that the
  * caller lends, or the input is refused with a number and a place. There is no lexer here: the caller's tokens are what is parsed.
  *
- * The three calls are proved to give, for every input, the number, the place, the row count and every element of the table that the definition of
- * the grammar gives. Link the archive that `tools/archive krosstavel.a` makes; it needs `memset` from outside and no more:
+ * The calls are proved to give, for every input, the number, the place, the row count, every element of the table and every field of a night's
+ * records that the definition gives. Link the archive that `tools/archive krosstavel.a` makes; it needs `memset` from outside and no more:
  *
  *     cc program.c krosstavel.a -o program
  *
@@ -27,6 +27,7 @@ extern "C" {
 #define KROSSTAVEL_MOST_TOKENS 65535
 #define KROSSTAVEL_MOST_BYTES 16777216
 #define KROSSTAVEL_DEEPEST 256
+#define KROSSTAVEL_MOST_JOBS 400 /* of krosstavel_batch */
 
 /* Elements of the table that a row has, and where each stands in it. */
 #define KROSSTAVEL_ROW 4
@@ -48,7 +49,10 @@ struct krosstavel_answer {
     uint32_t rows;   /* how many rows were written; 0 if refused */
 };
 
-/* Why an input was refused. 1 to 5 are tried in that order, over the whole input; of 6 to 11 the first that the parse meets is given. */
+/*
+ * Why an input was refused. 1 to 5 are tried in that order, over the whole input; of 6 to 11 the first that the parse meets is given. 12 comes from
+ * krosstavel_batch alone, which tries it before the others.
+ */
 enum krosstavel_refused {
     KROSSTAVEL_REFUSED_SETTING = 1,    /* the depth limit is not 1 to 256, or the separator is no token or is trivia; place 0 */
     KROSSTAVEL_REFUSED_LENGTHS = 2,    /* the list of kinds and the list of lengths differ in length; place 0 */
@@ -60,11 +64,12 @@ enum krosstavel_refused {
     KROSSTAVEL_REFUSED_STREAM = 8,     /* a bracket of a macro call or an attribute is still open at the end */
     KROSSTAVEL_REFUSED_STUCK = 9,      /* no statement begins here */
     KROSSTAVEL_REFUSED_DEPTH = 10,     /* nested deeper than the depth limit allows */
-    KROSSTAVEL_REFUSED_ROOM = 11       /* the table has no row left */
+    KROSSTAVEL_REFUSED_ROOM = 11,      /* the table has no row left */
+    KROSSTAVEL_REFUSED_JOB = 12        /* a job's range is outside the lists or its entry is none of the three, or there are more than 400 jobs; place 0 */
 };
 
 /*
- * The three calls take the same first arguments:
+ * The calls of a single entry take the same first arguments:
  *
  *   kinds, kinds_len   the tokens' kinds, each 1 to 127
  *   lens, lens_len     the tokens' byte lengths, as many; a token may have length 0
@@ -88,6 +93,49 @@ struct krosstavel_answer krosstavel_exprs(const uint8_t *kinds, size_t kinds_len
 /* One expression, then every other token as it is: the inside of a format. */
 struct krosstavel_answer krosstavel_format(
     const uint8_t *kinds, size_t kinds_len, const uint32_t *lens, size_t lens_len, uint32_t *table, size_t table_len, uint32_t limit);
+
+/* The entry of a job, by number. */
+enum krosstavel_entry {
+    KROSSTAVEL_ENTRY_ROOT = 0,  /* as krosstavel_root */
+    KROSSTAVEL_ENTRY_EXPRS = 1, /* as krosstavel_exprs */
+    KROSSTAVEL_ENTRY_FORMAT = 2 /* as krosstavel_format */
+};
+
+/* A job of a night: what is asked, which stays as it is, and what the job came to. */
+struct krosstavel_job {
+    uint32_t entry;                  /* an enum krosstavel_entry */
+    uint32_t separator;              /* of KROSSTAVEL_ENTRY_EXPRS; not looked at for the others */
+    uint32_t limit;                  /* the depth limit */
+    uint32_t first;                  /* the index of its first token in the shared lists */
+    uint32_t count;                  /* how many tokens it has */
+    struct krosstavel_answer answer; /* written by the call; what it holds before does not matter */
+};
+
+/*
+ * A night's worth of scripts at once: jobs, each a range of tokens in lists that all of them share, parsed in order into one table.
+ *
+ *   kinds, kinds_len   the kinds of all tokens
+ *   lens, lens_len     their byte lengths, as many. The lists may be longer than KROSSTAVEL_MOST_TOKENS: that bounds each job's count
+ *   jobs, jobs_len     the records, at most KROSSTAVEL_MOST_JOBS. Ranges may overlap and need not cover the lists
+ *   table, table_len   where the trees go
+ *
+ * Each job's answer is that of its entry's own call on the tokens `first` to `first + count` (added without wrapping) and on the elements of the table
+ * behind the rows taken so far. An accepted job takes the rows that its answer counts, a refused one takes none. So the rows of the accepted jobs stand
+ * in the table one job right behind the other, and job k's begin at element KROSSTAVEL_ROW times the sum of `answer.rows` over the jobs before it. What
+ * no job takes ends as zeros. Places and start bytes count from the job's own first token.
+ *
+ * A job whose range is not inside the lists, or whose entry is none of the three, is refused with KROSSTAVEL_REFUSED_JOB at place 0 before anything
+ * else of it is looked at. `first` at the lists' end with a count of 0 is inside. The jobs behind it run as if it were not there.
+ *
+ * What comes back is the answer to the whole call. It is refused, at place 0, with KROSSTAVEL_REFUSED_JOB if there are more than KROSSTAVEL_MOST_JOBS
+ * jobs, and else with KROSSTAVEL_REFUSED_LENGTHS if the lists differ in length: then the table holds zeros and no record was changed. Otherwise number
+ * and place are 0, whatever the jobs came to, and `rows` is the sum of all jobs' rows. (It would stay at 4,294,967,295 if they were more, for which a
+ * table below 64 GiB has no room.) No jobs at all are 0, 0, 0 and a table of zeros.
+ *
+ * The caller owes the same as above for the four lists. The records and the table overlap neither each other nor the lists.
+ */
+struct krosstavel_answer krosstavel_batch(const uint8_t *kinds, size_t kinds_len, const uint32_t *lens, size_t lens_len, struct krosstavel_job *jobs,
+    size_t jobs_len, uint32_t *table, size_t table_len);
 
 /*
  * The kinds: the list of docs/KINDS.md, which `tools/check-kinds` holds this one to. Numbers 1 to 127 are tokens, from 128 up nodes. A token's number that

@@ -1,6 +1,6 @@
 /*
- * Ten ways for a call to go wrong, one of them chosen by FAULT (0: none), round the archive's own. `tools/fuzz` tries each: the target has to see it.
- * The linker puts these in place of the calls (--wrap).
+ * Sixteen ways for a call to go wrong, the last six for a night, one of them chosen by FAULT (0: none), round the archive's own. `tools/fuzz` tries
+ * each: the target has to see it. The linker puts these in place of the calls (--wrap).
  */
 #include <stdlib.h>
 
@@ -17,7 +17,13 @@ enum {
     WRITES_KINDS,
     WRITES_LENS,
     OTHER_PLACE,
-    OTHER_ELEMENT
+    OTHER_ELEMENT,
+    WRITES_BEHIND_JOBS,
+    WRITES_BEFORE_JOBS,
+    OTHER_ASKED,
+    OTHER_JOB_PLACE,
+    OTHER_NIGHT_ROWS,
+    OTHER_NIGHT_ELEMENT
 };
 
 static int fault(void)
@@ -96,4 +102,45 @@ struct krosstavel_answer __wrap_krosstavel_format(LISTS, uint32_t limit)
 {
     stray(LENT);
     return altered(__real_krosstavel_format(LENT, limit), table, table_len);
+}
+
+/* After the call of a night, which has a job at least. */
+static struct krosstavel_answer altered_night(
+    struct krosstavel_answer answer, struct krosstavel_job *jobs, size_t jobs_len, uint32_t *table, size_t table_len)
+{
+    volatile struct krosstavel_job *j = jobs;
+
+    switch (fault()) {
+    case WRITES_BEHIND_JOBS:
+        j[jobs_len].entry = 0;
+        break;
+    case WRITES_BEFORE_JOBS:
+        j[-1].answer.rows = 0;
+        break;
+    case OTHER_ASKED:
+        j[0].limit++;
+        break;
+    case OTHER_JOB_PLACE:
+        j[jobs_len - 1].answer.place++;
+        break;
+    case OTHER_NIGHT_ROWS:
+        answer.rows++;
+        break;
+    case OTHER_NIGHT_ELEMENT:
+        table[table_len - 1]++;
+        break;
+    }
+    return answer;
+}
+
+#define NIGHT \
+    const uint8_t *kinds, size_t kinds_len, const uint32_t *lens, size_t lens_len, struct krosstavel_job *jobs, size_t jobs_len, uint32_t *table, \
+        size_t table_len
+
+struct krosstavel_answer __real_krosstavel_batch(NIGHT);
+
+struct krosstavel_answer __wrap_krosstavel_batch(NIGHT)
+{
+    struct krosstavel_answer answer = __real_krosstavel_batch(kinds, kinds_len, lens, lens_len, jobs, jobs_len, table, table_len);
+    return altered_night(answer, jobs, jobs_len, table, table_len);
 }

@@ -4,32 +4,35 @@ WHILE = 'Loop ({0}) ({0}) t₀ t kinds lens table₀ table'
 
 
 def entry(name, use, value, valid, treated=''):
-    """An entry: refused by the check, or parsed by its rule from the tape that `begin` gives. `valid` is what the code found of limit and separator."""
+    """An entry without its last step: refused by the check, or parsed by its rule from the tape that `begin` gives. `valid` is what the code found of limit and separator."""
     rule = name + '-rule'
     call = f'({value}) (@args .limit) ({valid}) (@check .ensures) (@args .table .now)'
     return {
         'needs': {
-            'returns': f'entry-refused {call} (@if1 .taken) (@refuse .ensures)',
+            'returns': f'entry-refused {call} (@if1 .taken) (@refused .ensures)',
             'begin-requires': f'(limit-few ({value}) (@args .limit) ({valid}) (@check .ensures) (@if1 .left), @check .ensures .sized (@if1 .left))',
             f'{rule}-requires': f'(marked-start (@args .table .now) (@begin .ensures), {treated}@begin .ensures .ready (@args .table .now))',
-            'finish-requires': f'fitting (@{rule} .ensures)',
-            'returns-2': f'entry-parsed {call} (@if1 .left) (@begin .ensures) (@{rule} .ensures) (@finish .ensures)',
+            'outcome-of-requires': f'counted (@{rule} .ensures)',
+            'returns-2': f'entry-parsed {call} (@if1 .left) (@begin .ensures) (@{rule} .ensures) (@outcome-of .ensures)',
         },
         'unfolding': 'program',
         'unfolds': ['returns-2'],
         'use': [
             'use Rattle.definition.specs.Parse.{%s, program, isLimit}' % name,
-            'use Rattle.entry.specs.Whole.{entry-refused, entry-parsed, fitting}',
+            'use Rattle.entry.specs.Whole.{entry-refused, entry-parsed, counted}',
             'use Rattle.krosstavel.specs.Starting.{marked-start, limit-few, %s}' % use,
         ],
     }
 
 
-def for_c(name):
-    """The same for C: the outcome as three numbers."""
+def settled(name):
+    """The entry: its last step after the rows."""
     return {
-        'needs': {'returns': f'rw (@as-numbers .ensures) (@{name} .ensures .answers)'},
-        'use': [],
+        'needs': {
+            'settle-requires': f'omega (arith, @{name}-rows .ensures .inside, @{name}-rows .ensures .len)',
+            'returns': f'settled (@{name}-rows .ensures) (@settle .ensures)',
+        },
+        'use': ['use native.Mathlib.Omega.{arith}', 'use Rattle.entry.specs.Table.{settled}'],
     }
 
 
@@ -51,10 +54,10 @@ WORDS = {
         'use': [START],
     },
     'format-rule': {'inv': WHILE.format('while not-eof bump'), 'names': ['while', 'not-eof'], 'use': [START, 'use Rattle.definition.specs.Prog.{bump}']},
-    'root': entry('root', 'valid-root', 'root', LIMIT.format('root')),
-    'exprs': EXPRS,
-    'format': entry('format', 'valid-format', 'format', LIMIT.format('format')),
-    'krosstavel-root': for_c('root'),
-    'krosstavel-exprs': for_c('exprs'),
-    'krosstavel-format': for_c('format'),
+    'root-rows': entry('root', 'valid-root', 'root', LIMIT.format('root')),
+    'exprs-rows': EXPRS,
+    'format-rows': entry('format', 'valid-format', 'format', LIMIT.format('format')),
+    'root': settled('root'),
+    'exprs': settled('exprs'),
+    'format': settled('format'),
 }

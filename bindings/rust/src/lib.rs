@@ -1,7 +1,7 @@
 //! The proved tree builder, from Rust.
 //!
 //! Tokens go in as a list of kind numbers and a list of their byte lengths; the tree comes out as rows of four numbers in a table that the caller lends.
-//! The three calls are proved (in Rattle) to give, for every input, the number, the place, the row count and every element of the table that the
+//! The calls are proved (in Rattle) to give, for every input, the number, the place, the row count and every element of the table that the
 //! definition of the grammar gives; this crate hands them slices and reads the rows back. There is no lexer here: the caller's tokens are what is parsed.
 //!
 //! ```
@@ -43,6 +43,8 @@
 //! assert!(table.iter().all(|element| *element == 0));
 //! ```
 //!
+//! Many scripts go through one call, and one table, as a [`Night`].
+//!
 //! # Costs and limits
 //!
 //! At most 65,535 tokens of 16,777,216 bytes in all, and a depth limit of 1 to 256. A call takes no memory of its own but stack: at depth 256
@@ -53,10 +55,12 @@
 
 mod calls;
 mod kinds;
+mod night;
 mod refusal;
 mod tree;
 
 pub use kinds::Kind;
+pub use night::{batch, Job, Night, MOST_JOBS};
 pub use refusal::{Reason, Refusal};
 pub use tree::{FromLast, Node, Tree, ROW};
 

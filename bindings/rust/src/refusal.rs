@@ -59,31 +59,37 @@ reasons! {
     9 Stuck "no statement begins here",
     10 Depth "it is nested deeper than the depth limit allows",
     11 Room "the table has no row left",
+    12 Job "a job's range is outside the lists or its entry is none of the three, or there are more than 400 jobs",
 }
 
 impl Reason {
-    /// Whether the place is that of a token, or the end. The refusals of a call's arguments, 1 to 3, have none.
+    /// Whether the place is that of a token, or the end. The refusals of a call's arguments, 1 to 3 and 12, have none.
     const fn has_place(self) -> bool {
-        !matches!(self, Reason::Setting | Reason::Lengths | Reason::Count)
+        !matches!(self, Reason::Setting | Reason::Lengths | Reason::Count | Reason::Job)
     }
 }
 
-/// A refused input: the number, the place and the bytes of the token there. The table that was lent holds zeros alone.
+/// A refused input: the number, the place and the bytes of the token there. The table that was lent to a single call holds zeros alone; a refused job
+/// of a [`Night`](crate::Night) takes none of the table.
 #[derive(Debug, Clone, PartialEq, Eq)]
 pub struct Refusal {
     reason: Reason,
     place: usize,
-    bytes: Range<u64>,
+    /// None if the reason has no place.
+    bytes: Option<Range<u64>>,
 }
 
 impl Refusal {
     /// What a call that answered a number other than 0 says of these tokens.
     pub(crate) fn new(answer: &Answer, lens: &[u32]) -> Refusal {
+        let reason = Reason::of_number(answer.number);
         let place = answer.place as usize;
-        let sum = |lens: &[u32]| lens.iter().map(|len| u64::from(*len)).sum::<u64>();
-        let start = sum(&lens[..place.min(lens.len())]);
-        let length = lens.get(place).map_or(0, |len| u64::from(*len));
-        Refusal { reason: Reason::of_number(answer.number), place, bytes: start..start + length }
+        let bytes = || {
+            let start = lens.iter().take(place).map(|len| u64::from(*len)).sum::<u64>();
+            let length = lens.get(place).map_or(0, |len| u64::from(*len));
+            start..start + length
+        };
+        Refusal { reason, place, bytes: reason.has_place().then(bytes) }
     }
 
     /// Why.
@@ -91,19 +97,19 @@ impl Refusal {
         self.reason
     }
 
-    /// The scope's number, 1 to 11.
+    /// The scope's number, 1 to 12.
     pub fn number(&self) -> u32 {
         self.reason.number()
     }
 
-    /// The index of the token where it was refused, or the token count for the end. Refusals 1 to 3 have no place, and 0 here.
+    /// The index of the token where it was refused, or the token count for the end. Refusals 1 to 3 and 12 have no place, and 0 here.
     pub fn place(&self) -> usize {
         self.place
     }
 
-    /// The bytes of the token at the place; empty at the end, and `None` for refusals 1 to 3.
+    /// The bytes of the token at the place; empty at the end, and `None` for refusals 1 to 3 and 12.
     pub fn bytes(&self) -> Option<Range<u64>> {
-        self.reason.has_place().then(|| self.bytes.clone())
+        self.bytes.clone()
     }
 }
 

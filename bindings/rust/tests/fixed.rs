@@ -1,16 +1,13 @@
 //! The oracle's fixed answers through the bindings: number, place, rows, and the tree as the view walks it. No Rust of the grammar is needed for it.
 
+mod asked;
+
+use asked::{Asked, CASES};
 use krosstavel::{Entry, Kind, Node, Tree};
 
-const CASES: &str = include_str!("../../../oracle/vectors/cases.txt");
-
-/// A line of the list, in the format that `oracle/README.md` describes.
+/// A line of the list.
 struct Case {
-    entry: Entry,
-    limit: u32,
-    elements: usize,
-    kinds: Vec<u8>,
-    lens: Vec<u32>,
+    asked: Asked,
     number: u32,
     place: usize,
     rows: usize,
@@ -20,14 +17,11 @@ struct Case {
 
 impl Case {
     fn read(line: &str) -> Case {
-        let mut numbers = line.split(' ').map(|number| number.parse::<u32>().unwrap());
+        let mut numbers = asked::numbers(line);
+        let asked = Asked::read(&mut numbers);
         let mut next = || numbers.next().unwrap();
-        let (entry, separator, limit, elements) = (next(), next(), next(), next() as usize);
-        let entry = [Entry::Root, Entry::Exprs(separator), Entry::Format][entry as usize];
-        let kinds = (0..next()).map(|_| next() as u8).collect();
-        let lens = (0..next()).map(|_| next()).collect();
         let (number, place, rows) = (next(), next() as usize, next() as usize);
-        Case { entry, limit, elements, kinds, lens, number, place, rows, shape: numbers.collect() }
+        Case { asked, number, place, rows, shape: numbers.collect() }
     }
 }
 
@@ -58,8 +52,8 @@ fn check_walk(tree: &Tree) {
 }
 
 fn check(case: &Case) {
-    let mut table = vec![0xa5a5_a5a5; case.elements];
-    match case.entry.parse(&case.kinds, &case.lens, &mut table, case.limit) {
+    let mut table = vec![0xa5a5_a5a5; case.asked.elements];
+    match case.asked.parse(&mut table) {
         Ok(tree) => {
             assert_eq!((case.number, case.rows), (0, tree.len()));
             assert_eq!(case.shape, shape(&tree));
@@ -70,7 +64,7 @@ fn check(case: &Case) {
         }
         Err(refusal) => {
             assert_eq!((case.number, case.place), (refusal.number(), refusal.place()));
-            let before = case.lens.iter().take(case.place).map(|len| u64::from(*len)).sum::<u64>();
+            let before = case.asked.lens.iter().take(case.place).map(|len| u64::from(*len)).sum::<u64>();
             assert_eq!(refusal.bytes().map(|bytes| bytes.start), (case.number > 3).then_some(before));
             assert!(table.iter().all(|element| *element == 0));
         }

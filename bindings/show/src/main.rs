@@ -4,6 +4,7 @@ mod draw;
 mod grouping;
 mod json;
 mod lexer;
+mod night;
 mod options;
 mod parsed;
 mod picture;
@@ -14,7 +15,7 @@ use std::io::{self, Write};
 use std::process::ExitCode;
 
 use krosstavel::{Refusal, Tree};
-use options::{Options, Output, USAGE};
+use options::{Options, Output, Source, Sources, USAGE};
 use parsed::Parsed;
 
 const TREE: u8 = 0;
@@ -35,7 +36,14 @@ fn main() -> ExitCode {
 
 /// Parses what the options name and prints what they ask for. An answer is an exit status.
 fn show(options: &Options) -> Result<u8, String> {
-    let text = source::read(&options.source)?;
+    match &options.sources {
+        Sources::One(source) => show_one(source, options),
+        Sources::Files(files) => night::show(files, options),
+    }
+}
+
+fn show_one(source: &Source, options: &Options) -> Result<u8, String> {
+    let text = source.read()?;
     let mut table = Vec::new();
     let parsed = Parsed::of(options, &text, &mut table);
     match (&parsed.outcome, &options.output) {

@@ -10,10 +10,14 @@ use crate::lexer::Tokens;
 pub const USAGE: &str = "\
 usage: show [OPTION].. TEXT
        show [OPTION].. --file FILE
-       show [OPTION]..              reads standard input, as does a TEXT of -
+       show [OPTION]..                 reads standard input, as does a TEXT or FILE.. of -
+       show [OPTION].. --files FILE..  a line for each file
 
 Prints the tree that krosstavel builds for a text, or why and where the text is refused.
 The product has no lexer: the one here is for display only.
+
+With --files, one call parses all files into one table (400 at a time, if there are more), and what is
+printed is a line for each, its rows and tokens or why and where it is refused, and how many were which.
 
 what the text is
   --exprs            expressions, a separator between them: a guard (the default)
@@ -30,16 +34,23 @@ what is printed: the grouping and the tree, or
   --dot              a graph for dot
   --svg FILE         a picture, into FILE
 
-exit status: 0 a tree, 1 a refusal, 2 no answer (usage, or a text that cannot be read)";
+exit status: 0 a tree, 1 a refusal, 2 no answer (usage, or a text that cannot be read); of several
+files the largest";
 
 /// More elements than any tree takes, and no more memory than there is.
 const MOST_ELEMENTS: u32 = 1 << 24;
 
-/// Where the text comes from.
+/// Where a text comes from.
 pub enum Source {
     Text(OsString),
     File(PathBuf),
     Input,
+}
+
+/// One text to look into, or files of which each gets a line.
+pub enum Sources {
+    One(Source),
+    Files(Vec<Source>),
 }
 
 #[derive(PartialEq, Eq)]
@@ -51,12 +62,26 @@ pub enum Output {
     Svg(PathBuf),
 }
 
+impl Output {
+    /// The option that asks for it; what is printed without one has none.
+    fn option(&self) -> Option<&'static str> {
+        match self {
+            Output::Tree { trivia: false } => None,
+            Output::Tree { trivia: true } => Some("--trivia"),
+            Output::Rows => Some("--rows"),
+            Output::Json => Some("--json"),
+            Output::Dot => Some("--dot"),
+            Output::Svg(_) => Some("--svg"),
+        }
+    }
+}
+
 pub struct Options {
     pub entry: Entry,
     pub limit: u32,
     pub elements: Option<usize>,
     pub output: Output,
-    pub source: Source,
+    pub sources: Sources,
 }
 
 impl Options {
@@ -67,20 +92,26 @@ impl Options {
             limit: DEEPEST,
             elements: None,
             output: Output::Tree { trivia: false },
-            source: Source::Input,
+            sources: Sources::One(Source::Input),
         };
         let mut separator = None;
-        let mut texts = Vec::new();
+        let mut several = false;
+        let mut words = Vec::new();
         while let Some(arg) = args.next() {
             match arg.to_str() {
                 Some("--help" | "-h") => return Ok(None),
-                Some("--") => texts.extend(args.by_ref()),
+                Some("--") => words.extend(args.by_ref()),
+                Some("--files") => several = true,
                 Some("--separator") => separator = Some(separator_of(&value(&arg, args.next())?)?),
                 Some(name) if name.starts_with("--") => options.set(name, &mut args)?,
-                _ => texts.push(arg),
+                _ => words.push(arg),
             }
         }
-        options.take_text(texts)?;
+        if several {
+            options.take_files(words)?;
+        } else {
+            options.take_text(words)?;
+        }
         if let Some(separator) = separator {
             options.set_separator(separator)?;
         }
@@ -100,23 +131,46 @@ impl Options {
             "--json" => self.output = Output::Json,
             "--dot" => self.output = Output::Dot,
             "--svg" => self.output = Output::Svg(given()?.into()),
-            "--file" => self.source = Source::File(given()?.into()),
+            "--file" => self.take_file(given()?.into())?,
             _ => return Err(format!("no option {name} (a text that begins so goes after --)")),
         }
         Ok(())
     }
 
+    fn take_file(&mut self, file: PathBuf) -> Result<(), String> {
+        if let Sources::One(Source::File(_)) = self.sources {
+            return Err("more than one --file: --files takes several".to_owned());
+        }
+        self.sources = Sources::One(Source::File(file));
+        Ok(())
+    }
+
     fn take_text(&mut self, texts: Vec<OsString>) -> Result<(), String> {
         let mut texts = texts.into_iter();
-        match (texts.next(), texts.next(), &self.source) {
+        match (texts.next(), texts.next(), &self.sources) {
             (_, Some(_), _) => Err("more than one text: put quotes round it".to_owned()),
-            (Some(_), None, Source::File(_)) => Err("both a text and a file".to_owned()),
+            (Some(_), None, Sources::One(Source::File(_))) => Err("both a text and a file".to_owned()),
             (Some(text), None, _) if text != "-" => {
-                self.source = Source::Text(text);
+                self.sources = Sources::One(Source::Text(text));
                 Ok(())
             }
             _ => Ok(()),
         }
+    }
+
+    fn take_files(&mut self, names: Vec<OsString>) -> Result<(), String> {
+        if let Sources::One(Source::File(_)) = self.sources {
+            return Err("both --file and --files".to_owned());
+        }
+        if let Some(option) = self.output.option() {
+            return Err(format!("{option} goes with one text: --files prints a line for each file"));
+        }
+        if names.is_empty() {
+            return Err("--files lacks its files".to_owned());
+        }
+        let source = |name: OsString| if name == "-" { Source::Input } else { Source::File(name.into()) };
+        self.sources = Sources::Files(names.into_iter().map(source).collect());
+        Ok(())
     }
 
     fn set_separator(&mut self, separator: u32) -> Result<(), String> {

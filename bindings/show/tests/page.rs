@@ -12,12 +12,13 @@ fn docs() -> PathBuf {
     Path::new(env!("CARGO_MANIFEST_DIR")).join("../../docs")
 }
 
-/// What a shell prints for a command in which `show` is ours, and a status other than 0.
+/// What a shell in this crate's folder prints for a command in which `show` is ours, and a status other than 0.
 fn printed(command: &str) -> String {
     let folder = Path::new(SHOW).parent().unwrap().to_str().unwrap();
     let path = format!("{folder}:{}", std::env::var("PATH").unwrap_or_default());
     let script = format!("{{ {command}\n}} 2>&1");
-    let ran = Command::new("sh").args(["-c", &script]).env("PATH", path).output().unwrap();
+    let here = env!("CARGO_MANIFEST_DIR");
+    let ran = Command::new("sh").args(["-c", &script]).current_dir(here).env("PATH", path).output().unwrap();
     let mut out = String::from_utf8(ran.stdout).unwrap();
     match ran.status.code() {
         Some(0) => {}

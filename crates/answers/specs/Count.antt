@@ -2,16 +2,17 @@
 -- Assumes nothing.
 use Prim.Native.Nat.{ℕ, zero, suc, _+_, _-_, _*_, _≤_, _<_}
 use mathlib.Core.Path.{_≡_, refl, ap, sym, _∙_}
-use mathlib.Core.List.{List, [], _∷_, _++_, append-assoc}
+use mathlib.Core.List.{List, _++_, append-assoc}
 use native.Mathlib.Omega.{arith}
 use lib.ListN.{length, getD, replicate}
 use lib.Seq.{getD-at, getD-append-add}
 use Rattle.definition.specs.Kinds.{Root}
-use Rattle.definition.specs.Tape.{Row, width, elements}
+use Rattle.definition.specs.Tape.{width, elements}
 use Rattle.definition.specs.Parse.{Entry, flat}
+use Rattle.laws.specs.Flat.{flat-append, flat-length}
 use Rattle.trees.specs.Forest.{Forest, none, node, size, rows, rows-length}
 use Rattle.entry.specs.Promise.{Answered}
-use Rattle.answers.specs.Left.{Tree, flat-length}
+use Rattle.answers.specs.Left.{Tree}
 use Rattle.answers.specs.Accepted.{accepted}
 
 -- a table of this many rows, the last of them Root's: zeros follow
@@ -28,11 +29,6 @@ pub one-count : {count count′ : ℕ} {table : List ℕ} → Ends count table �
 one-count a b = let h = not-less a b in let g = not-less b a in omega arith
 
 -- ## Every accepted table has it
-
-flat-append : (l m : List Row) → flat (l ++ m) ≡ flat l ++ flat m
-unfolding flat
-flat-append [] m = refl
-flat-append (r ∷ l) m = rw (flat-append l m) (sym (append-assoc (elements r) (flat l) (flat m)))
 
 pub zeros : (n i : ℕ) → getD (replicate {A = ℕ} n 0) i 0 ≡ 0
 zeros zero i = refl

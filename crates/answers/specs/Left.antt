@@ -2,11 +2,12 @@
 -- Assumes nothing.
 use Prim.Native.Nat.{ℕ, _-_, _*_}
 use mathlib.Core.Path.{_≡_, ap, _∙_}
-use mathlib.Core.List.{List, [], _∷_, _++_}
+use mathlib.Core.List.{List, _++_}
 use native.Mathlib.Omega.{arith}
 use lib.ListN.{length, replicate}
-use Rattle.definition.specs.Tape.{Row, State, Out, ok, refused, width, elements}
+use Rattle.definition.specs.Tape.{Row, State, Out, ok, refused, width}
 use Rattle.definition.specs.Parse.{flat, numberOf, placeOf, rowsOf, tableOf}
+use Rattle.laws.specs.Flat.{flat-length}
 use Rattle.trees.specs.Forest.{Forest, size, rows, rows-length}
 use Rattle.entry.specs.Promise.{Answers}
 
@@ -23,11 +24,6 @@ pub record Refusal (why token n number place count : ℕ) (table : List ℕ) : T
   pub place-is : place ≡ token
   pub rows-are : count ≡ 0
   pub table-is : table ≡ replicate n 0
-
-pub flat-length : (l : List Row) → length (flat l) ≡ width * length l
-unfolding flat elements
-flat-length [] = omega arith
-flat-length (r ∷ l) = omega (arith, flat-length l)
 
 module _ {o : Out (Unit {0})} {n number place count : ℕ} {table : List ℕ} (a : Answers o n number place count table) where
   -- of an outcome whose rows are a tree's

@@ -16,8 +16,9 @@ use Rattle.trees.specs.Lossless.{leafRows}
 use Rattle.trees.specs.Two.{two, two-result}
 use Rattle.lines.specs.Line.{Line, spell, Links, Reads}
 use Rattle.lines.specs.LineDemand.{Call}
+use Rattle.laws.specs.Flat.{flat-length}
 use Rattle.entry.specs.Promise.{Answered, only-answer}
-use Rattle.answers.specs.Left.{Tree, flat-length}
+use Rattle.answers.specs.Left.{Tree}
 use Rattle.answers.specs.Accepted.{Accepted, accepted, leafKinds, leafLens}
 use Rattle.answers.specs.Count.{Ends, one-count, zeros, row-count}
 use Rattle.answers.specs.OnLine.{gets}

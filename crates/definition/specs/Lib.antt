@@ -7,3 +7,4 @@ pub mod Tape
 pub mod Prog
 pub mod Grammar
 pub mod Parse
+pub mod Night

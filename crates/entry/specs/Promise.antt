@@ -1,11 +1,11 @@
 -- What a caller gets of an outcome: a tree and its row count, or a refusal's number and place; and every element of the table.
 -- Assumes nothing.
-use Prim.Native.Nat.{ℕ}
+use Prim.Native.Nat.{ℕ, _*_, _≤_}
 use mathlib.Core.Path.{_≡_, refl, sym, _∙_}
 use mathlib.Core.List.{List}
-use lib.ListN.{length}
+use lib.ListN.{length, take}
 use Rattle.definition.specs.Tape.{Out, ok, refused, fault}
-use Rattle.definition.specs.Parse.{Entry, parse, numberOf, placeOf, rowsOf, tableOf}
+use Rattle.definition.specs.Parse.{Entry, parse, flat, numberOf, placeOf, rowsOf, tableOf}
 use Rattle.entry.specs.declared.Outcome.{Outcome}
 use Rattle.entry.specs.declared.Outcome.the-variants.{Tree, Refused}
 
@@ -49,9 +49,19 @@ ends {o = ok a s} e t = rw e record { is = refl; answers = record { number-is = 
 ends {o = refused n pl} e t = rw e record { is = refl; answers = record { number-is = refl; place-is = refl; rows-is = refl; table-is = t } }
 ends {o = fault w} e t = rw e record { is = refl; answers = record { number-is = refl; place-is = refl; rows-is = refl; table-is = t } }
 
+-- What a call without its last step, the zeros, leaves: the outcome, and its rows in front. What stands behind them is not said.
+pub record Leaves (o : Out (Unit {0})) (n : ℕ) (r : Outcome) (tab : List ℕ) : Type 0 where
+  pub is : r ≡ outcomeOf o
+  pub len : length tab ≡ n
+  pub inside : 4 * rows r ≤ n
+  pub front : take (4 * rows r) tab ≡ flat (rowsOf o)
+
 -- What the public calls promise. n is how many elements the table has that is lent.
 abbrev pub Parsed : Entry → List ℕ → List ℕ → ℕ → ℕ → Outcome → List ℕ → Type 0
 Parsed e ks ls n limit r tab = Ends (parse e ks ls n limit) n r tab
+
+abbrev pub Wrote : Entry → List ℕ → List ℕ → ℕ → ℕ → Outcome → List ℕ → Type 0
+Wrote e ks ls n limit r tab = Leaves (parse e ks ls n limit) n r tab
 
 abbrev pub Answered : Entry → List ℕ → List ℕ → ℕ → ℕ → ℕ → ℕ → ℕ → List ℕ → Type 0
 Answered e ks ls n limit number place rows tab = Answers (parse e ks ls n limit) n number place rows tab

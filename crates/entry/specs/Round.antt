@@ -1,15 +1,17 @@
 -- What the functions round the parse ask and ensure.
 -- Assumes nothing.
-use Prim.Native.Nat.{ℕ, _*_, _≤_}
+use Prim.Native.Nat.{ℕ, _-_, _≤_}
 use mathlib.Core.Path.{_≡_}
 use mathlib.Core.Bool.{Bool}
-use mathlib.Core.List.{List}
-use lib.ListN.{length}
+use mathlib.Core.List.{List, _++_}
+use lib.ListN.{length, take, replicate}
 use Rattle.definition.specs.Tape.{Out, refused}
 use Rattle.definition.specs.Parse.{admitted, start}
-use Rattle.tape.specs.View.{stateOf, Sized, Ready}
+use Rattle.tape.specs.View.{stateOf, outOf, Sized, Ready}
 use Rattle.tape.specs.declared.Tape.{Tape}
+use Rattle.entry.specs.declared.Outcome.{Outcome}
 use Rattle.entry.specs.declared.Refusal.{Refusal}
+use Rattle.entry.specs.Promise.{outcomeOf}
 
 -- Refusals 1 to 5, whatever follows them: number and place 0 where there is none. (`only-refusal` in Input: nothing is left open.)
 pub record Checked (valid : Bool) (ks ls : List ℕ) (r : Refusal) : Type 0 where
@@ -24,7 +26,14 @@ pub record Starts (limit : ℕ) (t : Tape) (ks ls : List ℕ) : Type 0 where
   pub state : (tab : List ℕ) → stateOf t tab ≡ start
   pub left : t .left ≡ limit
 
--- the rows lie in the table, and a u32 counts them
-pub record Fitting (t : Tape) (tab : List ℕ) : Type 0 where
-  pub inside : t .no ≡ 0 → 4 * t .rows ≤ length tab
+-- a u32 counts the rows
+pub record Counted (t : Tape) : Type 0 where
   pub few : t .no ≡ 0 → t .rows ≤ 4294967295
+
+-- what the tape came to, over any table: the rows are counted, not looked at
+pub record Came (t : Tape) (r : Outcome) : Type 0 where
+  pub is : (tab : List ℕ) → r ≡ outcomeOf (outOf tt t tab)
+
+-- the elements from `from` on are 0, and the others as they were
+pub record Zeroed (from : ℕ) (tab tab′ : List ℕ) : Type 0 where
+  pub is : tab′ ≡ take from tab ++ replicate (length tab - from) 0

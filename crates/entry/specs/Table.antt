@@ -1,28 +1,25 @@
 -- The table after a parse: its rows are its first elements, zeros follow, and that is what the definition promises.
 -- Assumes nothing.
 use Prim.Native.Nat.{ℕ, zero, suc, _+_, _-_, _*_, _≤_, _<_}
-use mathlib.Core.Path.{_≡_, refl, ap, sym, _∙_}
+use mathlib.Core.Path.{_≡_, refl, ap, sym, subst, _∙_}
 use mathlib.Core.List.{List, [], _∷_, _++_, append-nil, append-assoc}
 use native.Mathlib.Omega.{arith}
 use native.Mathlib.Numerals.{add-one}
 use lib.ListN.{length, take, drop, getD, set, replicate, length-set, length-append, length-drop, length-replicate, replicate-append-replicate, take-append-drop}
 use lib.Seq.{drop-cons, drop-length, take-add, length-take-le, append-snoc, getD-drop, set-at}
-use Rattle.definition.specs.Tape.{Row, refused, elements}
+use Rattle.definition.specs.Tape.{Row, Out, refused, elements}
 use Rattle.definition.specs.Parse.{flat, rowsOf, tableOf}
+use Rattle.laws.specs.Flat.{flat-append}
 use Rattle.tape.specs.View.{stateOf, rowAt, rowsIn, outOf}
 use Rattle.tape.specs.Rows.{length-rows}
 use Rattle.tape.specs.Steps.{went-on, stopped}
 use Rattle.tape.specs.declared.Tape.{Tape}
 use Rattle.entry.specs.declared.Outcome.{Outcome}
 use Rattle.entry.specs.declared.Outcome.the-variants.{Tree, Refused}
-use Rattle.entry.specs.Promise.{outcomeOf, Ends, ends}
+use Rattle.entry.specs.Promise.{rows, outcomeOf, Ends, ends, Leaves}
+use Rattle.entry.specs.Round.{Came, Zeroed}
 
 -- ## The table
-
-flat-append : (l r : List Row) → flat (l ++ r) ≡ flat l ++ flat r
-unfolding flat
-flat-append [] r = refl
-flat-append (x ∷ l) r = rw (flat-append l r) (sym (append-assoc (elements x) (flat l) (flat r)))
 
 -- a row's elements, as the table has them
 four : (l : List ℕ) → 4 ≤ length l → take 4 l ≡ getD l 0 0 ∷ getD l 1 0 ∷ getD l 2 0 ∷ getD l 3 0 ∷ []
@@ -84,30 +81,54 @@ zeroing-go {tab₀} {tab} {from} {i} v h =
       is = ap (λ (x : List ℕ). set x i 0) (v .is) ∙ zero-more tab₀ from i (v .low) (omega arith);
     }
 
-pub zeroing-end : {tab₀ tab : List ℕ} {from i : ℕ} → Zeroing tab₀ from tab i → length tab ≤ i → tab ≡ take from tab₀ ++ replicate (length tab₀ - from) 0
+pub zeroing-end : {tab₀ tab : List ℕ} {from i : ℕ} → Zeroing tab₀ from tab i → length tab ≤ i → Zeroed from tab₀ tab
 zeroing-end {tab₀} {tab} {from} {i} v h =
     let e : i ≡ length tab₀ = omega arith in
     let f : (take from tab₀ ++ replicate (i - from) 0) ++ drop i tab₀ ≡ take from tab₀ ++ replicate (length tab₀ - from) 0 =
     rw (e, drop-length tab₀) (append-nil (take from tab₀ ++ replicate (length tab₀ - from) 0)) in
-    v .is ∙ f
+    record { is = v .is ∙ f }
+
+pub zeroed-at : {m n : ℕ} {tab tab′ : List ℕ} → m ≡ n → Zeroed m tab tab′ → Zeroed n tab tab′
+zeroed-at {tab = tab} {tab′ = tab′} e z = subst (λ (k : ℕ). Zeroed k tab tab′) e z
 
 -- ## What is left with the caller
 
--- zeros alone
-pub refused-ends : (n pl len : ℕ) {tab : List ℕ} → tab ≡ replicate len 0 → Ends (refused n pl) len (Refused n pl) tab
-unfolding outcomeOf rowsOf tableOf flat
-refused-ends n pl len z =
-    let m : len - 0 ≡ len = omega arith in
-    ends refl (rw m z)
+-- what a tape came to, whatever the table holds
+pub came-refused : {t : Tape} → (t .no ≡ 0 → ⊥) → Came t (Refused (t .no) (t .byte))
+unfolding outcomeOf
+came-refused {t} z = record { is = λ tab. rw (stopped (t .no) (t .byte) (tt {0}) (stateOf t tab) z) }
 
--- the rows, and then zeros
-pub accepted-ends : (t : Tape) (tab : List ℕ) {tab′ : List ℕ} → t .no ≡ 0 → 4 * t .rows ≤ length tab →
-    tab′ ≡ take (4 * t .rows) tab ++ replicate (length tab - 4 * t .rows) 0 → Ends (outOf tt t tab) (length tab) (Tree (t .rows)) tab′
-unfolding outcomeOf rowsOf tableOf
-accepted-ends t tab z h e =
+pub came-tree : {t : Tape} → t .no ≡ 0 → Came t (Tree (t .rows))
+unfolding outcomeOf
+came-tree {t} z = record { is = λ tab. rw (went-on (t .no) (t .byte) (tt {0}) (stateOf t tab) z) (ap Tree (sym (length-rows (t .rows) tab))) }
+
+-- refused before the parse, over the table as it is
+pub refused-leaves : (n pl : ℕ) (tab : List ℕ) → Leaves (refused n pl) (length tab) (Refused n pl) tab
+unfolding outcomeOf rowsOf flat
+refused-leaves n pl tab = record { is = refl; len = refl; inside = omega arith; front = refl }
+
+tree-leaves : (t : Tape) (tab : List ℕ) → t .no ≡ 0 → 4 * t .rows ≤ length tab → Leaves (outOf tt t tab) (length tab) (Tree (t .rows)) tab
+unfolding outcomeOf rowsOf
+tree-leaves t tab z h =
     rw (went-on (t .no) (t .byte) (tt {0}) (stateOf t tab) z)
-    (ends (ap Tree (sym (length-rows (t .rows) tab))) (rw (flat-rows (t .rows) tab h, length-take-le (4 * t .rows) tab h) e))
+    record { is = ap Tree (sym (length-rows (t .rows) tab)); len = refl; inside = h; front = sym (flat-rows (t .rows) tab h) }
 
-pub stopped-ends : (t : Tape) (tab : List ℕ) {r : Outcome} {tab′ : List ℕ} → (t .no ≡ 0 → ⊥) → Ends (refused (t .no) (t .byte)) (length tab) r tab′ →
-    Ends (outOf tt t tab) (length tab) r tab′
-stopped-ends t tab z e = rw (stopped (t .no) (t .byte) (tt {0}) (stateOf t tab) z) e
+-- after it: the rows are the table's first elements
+pub came-leaves : {t : Tape} {r : Outcome} {tab : List ℕ} → Came t r → (t .no ≡ 0 → 4 * t .rows ≤ length tab) → Leaves (outOf tt t tab) (length tab) r tab
+came-leaves {t} {r} {tab} c h = go (t .no) refl
+  where
+    same : {x : Outcome} → Came t x → r ≡ x
+    same d = c .is tab ∙ sym (d .is tab)
+
+    go : (n : ℕ) → t .no ≡ n → Leaves (outOf tt t tab) (length tab) r tab
+    go zero e = rw (same (came-tree e)) (tree-leaves t tab e (h e))
+    go (suc n) e =
+        let z : t .no ≡ 0 → ⊥ = λ x. omega (arith, x, e) in
+        rw (same (came-refused z), stopped (t .no) (t .byte) (tt {0}) (stateOf t tab) z) (refused-leaves (t .no) (t .byte) tab)
+
+-- zeros behind the rows
+pub settled : {o : Out (Unit {0})} {n : ℕ} {r r′ : Outcome} {tab tab′ : List ℕ} → Leaves o n r tab → (r′ ≡ r) × Zeroed (4 * rows r) tab tab′ → Ends o n r′ tab′
+unfolding tableOf
+settled {r = r} {tab = tab} l e =
+    let h : 4 * rows r ≤ length tab = omega (arith, l .inside, l .len) in
+    ends (e .0 ∙ l .is) (e .1 .is ∙ (rw (sym (l .front), length-take-le (4 * rows r) tab h, l .len)))

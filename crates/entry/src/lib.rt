@@ -1,15 +1,15 @@
 // What every public call does round the parse: refusals 1 to 5 in their order over the whole input, then a tape that is ready, and after the parse
-// the answer and every element of the table.
+// the outcome and the zeros behind its rows.
 ghost use mathlib.Core.Path.{_≡_};
 ghost use mathlib.Core.List.{_++_};
-ghost use Prim.Native.Nat.{ℕ, _-_, _≤_};
+ghost use Prim.Native.Nat.{ℕ, _-_, _*_, _≤_};
 ghost use lib.ListN.{length, take, replicate};
 ghost use Rattle.definition.specs.Classes.{isToken};
-ghost use Rattle.definition.specs.Tape.{refused};
 ghost use Rattle.definition.specs.Parse.{exprs, isLimit, isEntry, firstNot, firstOver};
-ghost use Rattle.tape.specs.View.{outOf, Sized};
-ghost use Rattle.entry.specs.Promise.{number, place, rows, Ends};
-ghost use Rattle.entry.specs.Round.{Checked, Starts, Fitting};
+ghost use Rattle.tape.specs.View.{Sized};
+ghost use Rattle.entry.specs.declared.Outcome.the-variants.{Refused};
+ghost use Rattle.entry.specs.Promise.{number, place, rows};
+ghost use Rattle.entry.specs.Round.{Checked, Starts, Counted, Came, Zeroed};
 use tape::Tape;
 
 // What a call ends in.
@@ -132,6 +132,16 @@ pub fn check(valid: bool, kinds: &[u8], lens: &[u32]) -> Refusal
     found(0, 0)
 }
 
+// An input that is refused before it is parsed.
+pub fn refused(f: Refusal) -> Outcome
+    ensures { λ r. ⌜ r ≡ Refused (f .number) (f .place) ⌝ }
+{
+    Outcome::Refused {
+        number: f.number,
+        place: f.place,
+    }
+}
+
 // The tape before the first token, ready for any table. (The lengths are read only later: here they bound what the tape will count.)
 pub fn begin(kinds: &[u8], lens: &[u32], limit: u32) -> Tape
     requires { ⌜ (limit ≤ 65535) × Sized (now kinds) (now lens) ⌝ }
@@ -140,10 +150,26 @@ pub fn begin(kinds: &[u8], lens: &[u32], limit: u32) -> Tape
     Tape::begin(kinds, limit)
 }
 
+// What a parse came to: the tree, whose rows are the first in the table, or the refusal. What stands behind the rows is left as it is.
+pub fn outcome_of(t: Tape) -> Outcome
+    requires { ⌜ Counted t ⌝ }
+    ensures { λ r. ⌜ Came t r ⌝ }
+{
+    if t.no != 0 {
+        return Outcome::Refused {
+            number: t.no as u32,
+            place: t.byte,
+        };
+    }
+    Outcome::Tree {
+        rows: t.rows as u32,
+    }
+}
+
 // Sets every element from `from` on to 0.
-fn zero_from(table: &mut [u32], from: usize)
+pub fn zero_from(table: &mut [u32], from: usize)
     requires { ⌜ from ≤ length (now table) ⌝ }
-    ensures { λ _. ⌜ now (table .exit) ≡ take from (now (table .entry)) ++ replicate (length (now (table .entry)) - from) 0 ⌝ }
+    ensures { λ _. ⌜ Zeroed from (now (table .entry)) (now (table .exit)) ⌝ }
 {
     let mut i = from;
     while i < table.len() {
@@ -152,30 +178,12 @@ fn zero_from(table: &mut [u32], from: usize)
     }
 }
 
-// Sets every element to 0.
-fn clear(table: &mut [u32])
-    ensures { λ _. ⌜ now (table .exit) ≡ replicate (length (now (table .entry))) 0 ⌝ }
+// The end of a call: zeros behind the rows, and after a refusal zeros alone.
+pub fn settle(outcome: Outcome, table: &mut [u32]) -> Outcome
+    requires { ⌜ 4 * rows outcome ≤ length (now table) ⌝ }
+    ensures { λ r. ⌜ (r ≡ outcome) × Zeroed (4 * rows outcome) (now (table .entry)) (now (table .exit)) ⌝ }
 {
-    zero_from(table, 0);
-}
-
-// A refusal, and what it leaves: zeros alone.
-pub fn refuse(number: u32, place: u32, table: &mut [u32]) -> Outcome
-    ensures { λ r. ⌜ Ends (refused number place) (length (now (table .entry))) r (now (table .exit)) ⌝ }
-{
-    clear(table);
-    Outcome::Refused { number, place }
-}
-
-// After the parse: the tree, with its rows and then zeros in the table, or the refusal.
-pub fn finish(t: Tape, table: &mut [u32]) -> Outcome
-    requires { ⌜ Fitting t (now table) ⌝ }
-    ensures { λ r. ⌜ Ends (outOf tt t (now (table .entry))) (length (now (table .entry))) r (now (table .exit)) ⌝ }
-{
-    if t.no != 0 {
-        return refuse(t.no as u32, t.byte, table);
-    }
-    let rows = t.rows;
-    zero_from(table, 4 * rows);
-    Outcome::Tree { rows: rows as u32 }
+    let a = as_numbers(outcome);
+    zero_from(table, 4 * (a.rows as usize));
+    outcome
 }

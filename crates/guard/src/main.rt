@@ -25,7 +25,7 @@ fn refused(number: u32, place: u32) {
 
 // The parser's answer: its tree, or its refusal.
 fn parse(text: &[u8], kinds: &[u8], lens: &[u32], table: &mut [u32], names: &[u8]) {
-    let a = krosstavel::krosstavel_exprs(kinds, lens, table, COMMA, DEEPEST);
+    let a = exports::krosstavel_exprs(kinds, lens, table, COMMA, DEEPEST);
     if a.number != 0 {
         refused(a.number, a.place);
         return;

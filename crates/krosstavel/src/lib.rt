@@ -1,12 +1,11 @@
-// The three entries: what others link. Each is total: any lists, table and limits end in a tree or a numbered refusal with its place.
+// The three entries. Each is total: any lists, table and limits end in a tree or a numbered refusal with its place.
 ghost use mathlib.Core.Path.{_≡_};
 ghost use lib.ListN.{length};
 ghost use Rattle.definition.specs.Grammar.{root as rootProg, exprs as exprsProg, format as formatProg, close-root};
 ghost use Rattle.definition.specs.Parse.{root as rootEntry, exprs as exprsEntry, format as formatEntry};
 ghost use Rattle.tape.specs.View.{Ready, Marked, Step};
-ghost use Rattle.entry.specs.Promise.{Parsed, Answered};
+ghost use Rattle.entry.specs.Promise.{Wrote, Parsed};
 ghost use Rattle.krosstavel.specs.Starting.{Treated};
-use entry::Answer;
 use entry::Outcome;
 use grammar::expr;
 use grammar::stmt;
@@ -80,24 +79,32 @@ fn format_rule(tape: Tape, kinds: &[u8], lens: &[u32], table: &mut [u32]) -> Tap
     close_root(t, kinds, lens, table)
 }
 
-// ## The entries
+// ## The entries without their last step
+//
+// What stands behind the rows is left as it is, and after a refusal anywhere. So whoever parses one list after the other into one table clears it once.
 
 // Statements.
-pub fn root(kinds: &[u8], lens: &[u32], table: &mut [u32], limit: u32) -> Outcome
-    ensures { λ r. ⌜ Parsed rootEntry (now (kinds .entry)) (now (lens .entry)) (length (now (table .entry))) limit r (now (table .exit)) ⌝ }
+pub fn root_rows(kinds: &[u8], lens: &[u32], table: &mut [u32], limit: u32) -> Outcome
+    ensures { λ r. ⌜ Wrote rootEntry (now (kinds .entry)) (now (lens .entry)) (length (now (table .entry))) limit r (now (table .exit)) ⌝ }
 {
     let f = entry::check(entry::is_limit(limit), kinds, lens);
     if f.number != 0 {
-        return entry::refuse(f.number, f.place, table);
+        return entry::refused(f);
     }
     let t = entry::begin(kinds, lens, limit);
     let u = root_rule(t, kinds, lens, table);
-    entry::finish(u, table)
+    entry::outcome_of(u)
 }
 
 // Expressions with a separator.
-pub fn exprs(kinds: &[u8], lens: &[u32], table: &mut [u32], separator: u32, limit: u32) -> Outcome
-    ensures { λ r. ⌜ Parsed (exprsEntry separator) (now (kinds .entry)) (now (lens .entry)) (length (now (table .entry))) limit r (now (table .exit)) ⌝ }
+pub fn exprs_rows(
+    kinds: &[u8],
+    lens: &[u32],
+    table: &mut [u32],
+    separator: u32,
+    limit: u32,
+) -> Outcome
+    ensures { λ r. ⌜ Wrote (exprsEntry separator) (now (kinds .entry)) (now (lens .entry)) (length (now (table .entry))) limit r (now (table .exit)) ⌝ }
 {
     let f = entry::check(
         entry::is_limit(limit) & entry::is_separator(separator),
@@ -105,61 +112,45 @@ pub fn exprs(kinds: &[u8], lens: &[u32], table: &mut [u32], separator: u32, limi
         lens,
     );
     if f.number != 0 {
-        return entry::refuse(f.number, f.place, table);
+        return entry::refused(f);
     }
     let t = entry::begin(kinds, lens, limit);
     let u = exprs_rule(t, separator as u8, kinds, lens, table);
-    entry::finish(u, table)
+    entry::outcome_of(u)
 }
 
 // One expression, and then every other token.
-pub fn format(kinds: &[u8], lens: &[u32], table: &mut [u32], limit: u32) -> Outcome
-    ensures { λ r. ⌜ Parsed formatEntry (now (kinds .entry)) (now (lens .entry)) (length (now (table .entry))) limit r (now (table .exit)) ⌝ }
+pub fn format_rows(kinds: &[u8], lens: &[u32], table: &mut [u32], limit: u32) -> Outcome
+    ensures { λ r. ⌜ Wrote formatEntry (now (kinds .entry)) (now (lens .entry)) (length (now (table .entry))) limit r (now (table .exit)) ⌝ }
 {
     let f = entry::check(entry::is_limit(limit), kinds, lens);
     if f.number != 0 {
-        return entry::refuse(f.number, f.place, table);
+        return entry::refused(f);
     }
     let t = entry::begin(kinds, lens, limit);
     let u = format_rule(t, kinds, lens, table);
-    entry::finish(u, table)
+    entry::outcome_of(u)
 }
 
-// ## The same for C
+// ## The entries
 
-#[no_mangle]
-pub extern "C" fn krosstavel_root(
-    kinds: &[u8],
-    lens: &[u32],
-    table: &mut [u32],
-    limit: u32,
-) -> Answer
-    ensures { λ r. ⌜ Answered rootEntry (now (kinds .entry)) (now (lens .entry)) (length (now (table .entry))) limit (r .number) (r .place) (r .rows) (now (table .exit)) ⌝ }
+pub fn root(kinds: &[u8], lens: &[u32], table: &mut [u32], limit: u32) -> Outcome
+    ensures { λ r. ⌜ Parsed rootEntry (now (kinds .entry)) (now (lens .entry)) (length (now (table .entry))) limit r (now (table .exit)) ⌝ }
 {
-    entry::as_numbers(root(kinds, lens, table, limit))
+    let r = root_rows(kinds, lens, table, limit);
+    entry::settle(r, table)
 }
 
-#[no_mangle]
-pub extern "C" fn krosstavel_exprs(
-    kinds: &[u8],
-    lens: &[u32],
-    table: &mut [u32],
-    separator: u32,
-    limit: u32,
-) -> Answer
-    ensures { λ r. ⌜ Answered (exprsEntry separator) (now (kinds .entry)) (now (lens .entry)) (length (now (table .entry))) limit (r .number) (r .place) (r .rows) (now (table .exit)) ⌝ }
+pub fn exprs(kinds: &[u8], lens: &[u32], table: &mut [u32], separator: u32, limit: u32) -> Outcome
+    ensures { λ r. ⌜ Parsed (exprsEntry separator) (now (kinds .entry)) (now (lens .entry)) (length (now (table .entry))) limit r (now (table .exit)) ⌝ }
 {
-    entry::as_numbers(exprs(kinds, lens, table, separator, limit))
+    let r = exprs_rows(kinds, lens, table, separator, limit);
+    entry::settle(r, table)
 }
 
-#[no_mangle]
-pub extern "C" fn krosstavel_format(
-    kinds: &[u8],
-    lens: &[u32],
-    table: &mut [u32],
-    limit: u32,
-) -> Answer
-    ensures { λ r. ⌜ Answered formatEntry (now (kinds .entry)) (now (lens .entry)) (length (now (table .entry))) limit (r .number) (r .place) (r .rows) (now (table .exit)) ⌝ }
+pub fn format(kinds: &[u8], lens: &[u32], table: &mut [u32], limit: u32) -> Outcome
+    ensures { λ r. ⌜ Parsed formatEntry (now (kinds .entry)) (now (lens .entry)) (length (now (table .entry))) limit r (now (table .exit)) ⌝ }
 {
-    entry::as_numbers(format(kinds, lens, table, limit))
+    let r = format_rows(kinds, lens, table, limit);
+    entry::settle(r, table)
 }

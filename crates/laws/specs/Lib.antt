@@ -6,3 +6,5 @@ pub mod Looking
 pub mod Moves
 pub mod Known
 pub mod Progress
+pub mod Flat
+pub mod Nights

@@ -25,12 +25,12 @@ fn ask(
     ensures { λ r. ⌜ Answers (parse (entryOf entry separator) (now (kinds .entry)) (now (lens .entry)) (length (now (table .entry))) limit) (length (now (table .entry))) (r .number) (r .place) (r .rows) (now (table .exit)) ⌝ }
 {
     if entry == 0 {
-        return krosstavel::krosstavel_root(kinds, lens, table, limit);
+        return exports::krosstavel_root(kinds, lens, table, limit);
     }
     if entry == 1 {
-        return krosstavel::krosstavel_exprs(kinds, lens, table, separator, limit);
+        return exports::krosstavel_exprs(kinds, lens, table, separator, limit);
     }
-    krosstavel::krosstavel_format(kinds, lens, table, limit)
+    exports::krosstavel_format(kinds, lens, table, limit)
 }
 
 // Whether an answer has the number, the place and the row count that the list says.

@@ -4,12 +4,13 @@
 use std::time::{Duration, Instant};
 
 use oracle::case::Case;
-use oracle::{coverage, Entry, KEEPS_NEXT, MOST_TOKENS};
+use oracle::{coverage, Answer, Entry, KEEPS_NEXT, MOST_TOKENS};
 
 use crate::lists::LISTS;
 use crate::native;
+use crate::nights;
 use crate::options::Options;
-use crate::pair::{ask, Pair, Side};
+use crate::pair::{ask, Pair};
 use crate::Done;
 
 /// Rounds of which the best counts.
@@ -46,7 +47,7 @@ pub fn command(args: &[&str]) -> Done {
     );
     ratios.push(measured.ratio());
     print_sum(&ratios);
-    Ok(())
+    nights::bench::print(rounds)
 }
 
 /// What it runs on, and how both sides were built.
@@ -103,15 +104,10 @@ impl Measured {
         if let Some(difference) = difference {
             return Err(format!("the two sides differ:\n{}", difference.what));
         }
-        let mut table = vec![0; case.elements];
-        let mut best = [Duration::MAX; 2];
-        // The sides take turns, so that whatever slows the machine hits both.
-        for _ in 0..rounds {
-            for (side, best) in [oracle::parse as Side, native::parse].iter().zip(&mut best) {
-                *best = timed(*side, case, &mut table).min(*best);
-            }
-        }
-        let [oracle, native] = best;
+        let mut by_oracle = |table: &mut [u32]| ask(oracle::parse, case, table);
+        let mut by_native = |table: &mut [u32]| ask(native::parse, case, table);
+        let calls: [Call; 2] = [&mut by_oracle, &mut by_native];
+        let [oracle, native] = best_of(rounds, case.elements, calls);
         Ok(Measured {
             rows: answer.rows,
             oracle,
@@ -124,17 +120,41 @@ impl Measured {
     }
 }
 
-/// One parse into a cleared table; the clearing is not timed.
-fn timed(side: Side, case: &Case, table: &mut [u32]) -> Duration {
+/// What is timed: a call on a table.
+pub type Call<'a> = &'a mut dyn FnMut(&mut [u32]) -> Answer;
+
+/// The best time of each call into a table of so many elements. They take turns, so
+/// that whatever slows the machine hits all.
+pub fn best_of<const N: usize>(
+    rounds: u64,
+    elements: usize,
+    mut calls: [Call; N],
+) -> [Duration; N] {
+    let mut table = vec![0; elements];
+    let mut best = [Duration::MAX; N];
+    for _ in 0..rounds {
+        for (call, best) in calls.iter_mut().zip(&mut best) {
+            *best = timed(call, &mut table).min(*best);
+        }
+    }
+    best
+}
+
+/// One call into a cleared table; the clearing is not timed.
+fn timed(call: Call, table: &mut [u32]) -> Duration {
     table.fill(0);
     let from = Instant::now();
-    let answer = ask(side, case, table);
+    let answer = call(table);
     let took = from.elapsed();
     std::hint::black_box(answer);
     took
 }
 
-fn quotient(a: Duration, b: Duration) -> f64 {
+pub fn milliseconds(time: Duration) -> f64 {
+    time.as_secs_f64() * 1e3
+}
+
+pub fn quotient(a: Duration, b: Duration) -> f64 {
     a.as_secs_f64() / b.as_secs_f64().max(1e-9)
 }
 
@@ -142,8 +162,8 @@ fn print_line(name: &str, full: &Measured, half: &Measured) {
     println!(
         "{name:26}{:9}{:9.3}{:11.3}{:8.2}{:10.2}{:11.2}",
         full.rows,
-        full.oracle.as_secs_f64() * 1e3,
-        full.native.as_secs_f64() * 1e3,
+        milliseconds(full.oracle),
+        milliseconds(full.native),
         full.ratio(),
         quotient(full.native, half.native),
         quotient(full.oracle, half.oracle)

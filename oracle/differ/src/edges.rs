@@ -1,10 +1,12 @@
-//! `differ edges`: every limit at its edge, and the stack that the deepest lists
-//! use. Each case has the outcome that the scope gives it, besides the oracle's.
+//! `differ edges`: every limit at its edge, the fixed nights, and the stack that the
+//! deepest lists use. Each case has the outcome that the scope gives it, besides the
+//! oracle's.
 
 use oracle::case::Case;
 use oracle::{text, Entry, DEEPEST, ROW};
 
 use crate::nests;
+use crate::nights;
 use crate::pair::Pair;
 use crate::tally::Tally;
 use crate::Done;
@@ -47,6 +49,7 @@ pub fn command() -> Done {
     for (name, edges) in GROUPS {
         unlike += try_group(name, edges(), &mut all);
     }
+    unlike += nights::edges::try_all(&mut all);
     nests::print_stacks();
 
     println!(

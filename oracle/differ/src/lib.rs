@@ -14,6 +14,7 @@ mod lists;
 #[allow(unsafe_code)]
 pub mod native;
 mod nests;
+pub mod nights;
 pub mod options;
 pub mod pair;
 pub mod run;

@@ -107,9 +107,9 @@ fn answer(find: fn(&[Binding]) -> Found, kinds: &[u8], lens: &[u32], table: &mut
         Ok(group) => {
             let rows = Rows::of(&line, kinds, lens, &group);
             table[..rows.len()].copy_from_slice(&rows);
-            accepted(rows.len())
+            Answer::accepted(rows.len() / oracle::ROW)
         }
-        Err(left) => refused(line.operands[left + 1]),
+        Err(left) => Answer::refused(7, line.operands[left + 1] as u32),
     }
 }
 
@@ -120,23 +120,6 @@ fn reading(find: fn(&[Binding]) -> Found, line: &[Binding]) -> Result<Group, usi
         (1, Some(group), None) => Ok(group),
         (0, None, Some(left)) => Err(left),
         (count, _, left) => panic!("{count} groupings, a clash with {left:?}: {line:?}"),
-    }
-}
-
-fn accepted(elements: usize) -> Answer {
-    Answer {
-        number: 0,
-        place: 0,
-        rows: (elements / oracle::ROW) as u32,
-    }
-}
-
-/// Refusal 7, at an operand.
-fn refused(operand: usize) -> Answer {
-    Answer {
-        number: 7,
-        place: operand as u32,
-        rows: 0,
     }
 }
 
@@ -160,7 +143,7 @@ mod tests {
         let (kinds, lens) = text::tokens("a + b");
         let mut table = [1; 44];
         let got = tried_all(Entry::Exprs, &kinds, &lens, &mut table, 24, 256);
-        assert_eq!(got, accepted(44));
+        assert_eq!(got, Answer::accepted(11));
         #[rustfmt::skip]
         assert_eq!(table, [
             1, 0, 0, 1, 163, 1, 0, 1, 14, 0, 1, 1, 38, 0, 2, 1, 193, 1, 2, 1, 14, 0, 3, 1,
@@ -174,7 +157,7 @@ mod tests {
             let (kinds, lens) = text::tokens(text);
             let mut table = [1; 99];
             let got = counted(Entry::Exprs, &kinds, &lens, &mut table, 24, 256);
-            assert_eq!(got, refused(place), "`{text}`");
+            assert_eq!(got, Answer::refused(7, place), "`{text}`");
             assert_eq!(table, [0; 99]);
         }
     }

@@ -20,15 +20,15 @@ enum Make {
     By(fn(usize) -> Tokens),
 }
 
-type Tokens = (Vec<u8>, Vec<u32>);
+pub type Tokens = (Vec<u8>, Vec<u32>);
 
 const SPACE: u8 = 14;
 
 /// Every list of the benchmark: programs and guards, each construct again and
 /// again, and what strains one thing alone (rows, depth, trivia, one long token run).
 pub const LISTS: [List; 35] = [
-    by("mixed programs", Entry::Root, mixed_programs),
-    turns("guards", Entry::Exprs, "", "a & b == 0 && (c || d < e),"),
+    by("mixed programs", Entry::Root, |n| programs(14, n)),
+    by("guards", Entry::Exprs, guards),
     turns("a + a ..", Entry::Exprs, "a", " + a"),
     turns("operator mix", Entry::Exprs, "a", MIX),
     by("operator mix, no spaces", Entry::Exprs, |n| {
@@ -72,6 +72,11 @@ pub const LISTS: [List; 35] = [
         between(&format!("{}a;", "||".repeat(250)), " ", n)
     }),
 ];
+
+/// Guards of a policy, one after another.
+pub fn guards(tokens: usize) -> Tokens {
+    between("", "a & b == 0 && (c || d < e),", tokens)
+}
 
 const CONDITIONS: &str = "if a==b {c} else if d {e} else {f}";
 const MATCHES: &str = "match a {1=>b,[x,y] if c=>{d},_=>e}";
@@ -157,10 +162,10 @@ fn parentheses(tokens: usize) -> Tokens {
 
 /// Generated programs one after another. Only those are taken which leave
 /// nothing open for the next, so that the whole is accepted.
-fn mixed_programs(tokens: usize) -> Tokens {
+pub fn programs(seed: u64, tokens: usize) -> Tokens {
     const SEMICOLON: u8 = 26;
     let mut all = (Vec::new(), Vec::new());
-    let mut source = Source::new(14, 120);
+    let mut source = Source::new(seed, 120);
     while all.0.len() < tokens {
         let (class, mut case) = source.next_case();
         case.kinds.push(SEMICOLON);

@@ -2,11 +2,12 @@
 
 use std::process::ExitCode;
 
-use differ::{all, bench, check, edges, lines, run, Done};
+use differ::{all, bench, check, edges, lines, nights, run, Done};
 use oracle::deep;
 
 const USAGE: &str = "\
 usage: differ run --count N [--seed S] [--max-tokens M] [--threads T]
+       differ nights --count N [--seed S] [--threads T]
        differ all --length L [--full] [--threads T]
        differ edges
        differ lines [--count N] [--seed S] [--threads T]
@@ -22,6 +23,7 @@ fn command() -> Done {
     let args: Vec<&str> = args.iter().map(String::as_str).collect();
     match args.as_slice() {
         ["run", rest @ ..] => run::command(rest),
+        ["nights", rest @ ..] => nights::command(rest),
         ["all", rest @ ..] => all::command(rest),
         ["edges"] => edges::command(),
         ["lines", rest @ ..] => lines::command(rest),

@@ -3,6 +3,7 @@
 
 use std::hint::black_box;
 
+use oracle::night::Job;
 use oracle::{Answer, Entry};
 
 /// The proved parse, with the arguments of [`oracle::parse`].
@@ -19,15 +20,54 @@ pub fn parse(
         Entry::Exprs => krosstavel::Entry::Exprs(separator),
         Entry::Format => krosstavel::Entry::Format,
     };
-    let krosstavel::Answer {
-        number,
-        place,
-        rows,
-    } = entry.answer(kinds, lens, table, limit);
+    answer(entry.answer(kinds, lens, table, limit))
+}
+
+fn answer(from: krosstavel::Answer) -> Answer {
     Answer {
-        number,
-        place,
-        rows,
+        number: from.number,
+        place: from.place,
+        rows: from.rows,
+    }
+}
+
+/// A night's call: that of the proved parser, or one that stands in for it.
+pub type Batch = fn(&[u8], &[u32], &mut [Record], &mut [u32]) -> Answer;
+
+/// The proved parser's record, which lies in memory as the archive wants it.
+pub type Record = krosstavel::Job;
+
+/// The proved night. It takes its own records: whoever watches what is written
+/// beside them, or the time, has no copies in between.
+pub fn batch(kinds: &[u8], lens: &[u32], records: &mut [Record], table: &mut [u32]) -> Answer {
+    answer(krosstavel::batch(kinds, lens, records, table))
+}
+
+/// A job as the proved parser's record.
+pub fn record(job: &Job) -> Record {
+    Record {
+        entry: job.entry,
+        separator: job.separator,
+        limit: job.limit,
+        first: job.first,
+        count: job.count,
+        answer: krosstavel::Answer {
+            number: job.answer.number,
+            place: job.answer.place,
+            rows: job.answer.rows,
+        },
+    }
+}
+
+/// A record as the oracle's job.
+pub fn job(record: &Record) -> Job {
+    Job {
+        entry: record.entry,
+        separator: record.separator,
+        limit: record.limit,
+        first: record.first,
+        count: record.count,
+        answer: answer(record.answer),
     }
 }
 

@@ -5,6 +5,7 @@ use oracle::case::Case;
 use oracle::{text, Entry, DEEPEST};
 
 use crate::native;
+use crate::nights::Night;
 use crate::pair::{ask, Side};
 
 /// A rule inside itself: entry, beginning, what is repeated, what follows.
@@ -87,11 +88,13 @@ pub fn print_stacks() {
                 used.0, used.1
             );
         }
-        let (pair, used) = worst_pair();
+        let (pair, case, used) = worst_pair();
         println!("stack: {used:9} krosstavel, bytes, for {pair}.., the most of two rules in turn");
+        let in_night = stack_of_night(&case);
+        println!("stack: {in_night:9} krosstavel, bytes, for the same as a night's job");
         println!(
             "stack: at depth {DEEPEST} at most {} KiB (krosstavel), {} KiB (oracle), of {} KiB",
-            most.1.max(used).div_ceil(1024),
+            most.1.max(used).max(in_night).div_ceil(1024),
             most.0.div_ceil(1024),
             native::MEASURED_STACK / 1024
         );
@@ -103,17 +106,19 @@ pub fn print_stacks() {
 
 /// Of every two nests in turn, in both entries, those for which the proved parser
 /// uses the most stack. Turns that do not fit each other end early, and are few.
-fn worst_pair() -> (String, usize) {
-    let mut worst = (String::new(), 0);
+fn worst_pair() -> (String, Case, usize) {
+    let nothing = Case::roomy(Entry::Root, Vec::new(), Vec::new());
+    let mut worst = (String::new(), nothing, 0);
     for entry in [Entry::Root, Entry::Exprs] {
         for (_, before, one, _) in NESTS {
             for (_, _, other, _) in NESTS {
                 let turn = format!("{one}{other}");
                 let text = format!("{before} {}", turn.repeat(DEEPEST as usize));
                 let (kinds, lens) = text::tokens(&text);
-                let used = stack_of_side(native::parse, &Case::roomy(entry, kinds, lens));
-                if used > worst.1 {
-                    worst = (format!("{entry:?} {before} {turn}"), used);
+                let case = Case::roomy(entry, kinds, lens);
+                let used = stack_of_side(native::parse, &case);
+                if used > worst.2 {
+                    worst = (format!("{entry:?} {before} {turn}"), case, used);
                 }
             }
         }
@@ -136,5 +141,15 @@ fn stack_of_side(side: Side, case: &Case) -> usize {
     let mut table = vec![0; case.elements];
     native::stack_used(&mut || {
         ask(side, case, &mut table);
+    })
+}
+
+/// Bytes of stack that the proved parser uses for a case as a night's only job.
+fn stack_of_night(case: &Case) -> usize {
+    let mut night = Night::default();
+    let mut records = [native::record(&night.lay(case))];
+    let mut table = vec![0; case.elements];
+    native::stack_used(&mut || {
+        native::batch(&night.kinds, &night.lens, &mut records, &mut table);
     })
 }

@@ -11,13 +11,13 @@ use crate::native;
 const GUARD: usize = 16;
 
 /// What the proved parser's table holds beforehand.
-fn noise(at: usize) -> u32 {
+pub fn noise(at: usize) -> u32 {
     0xdead_beef_u32.wrapping_add(at as u32)
 }
 
 /// What the oracle's table holds: something else everywhere, so that an element
 /// which both sides leave alone differs too.
-fn other_noise(at: usize) -> u32 {
+pub fn other_noise(at: usize) -> u32 {
     !noise(at)
 }
 
@@ -43,12 +43,13 @@ pub fn ask(side: Side, case: &Case, table: &mut [u32]) -> Answer {
 
 /// A case for which the two sides do not agree.
 pub struct Difference {
-    pub case: Case,
+    /// How long it is to read.
+    pub size: usize,
     /// Each thing that differs.
     pub what: String,
     /// Who wanted another answer.
     pub judge: &'static str,
-    /// The case with each side's answer, in the oracle's line format.
+    /// The case with each side's answer as a line.
     pub wanted_line: String,
     pub native_line: String,
 }
@@ -70,7 +71,7 @@ impl Pair {
     pub fn compare_with(&mut self, judge: &Judge, case: &Case) -> (Answer, Option<Difference>) {
         let want = self.ask_judge(judge, case);
         let got = self.ask_native(case);
-        let same = want == got && self.wanted == self.native_table() && self.guards_kept();
+        let same = want == got && self.tables_agree();
         let difference = (!same).then(|| self.difference(judge.name, case, &want, &got));
         (want, difference)
     }
@@ -82,17 +83,35 @@ impl Pair {
     }
 
     fn ask_judge(&mut self, judge: &Judge, case: &Case) -> Answer {
-        self.wanted.clear();
-        self.wanted.extend((0..case.elements).map(other_noise));
-        ask(judge.parse, case, &mut self.wanted)
+        ask(judge.parse, case, self.fresh_wanted(case.elements))
     }
 
     fn ask_native(&mut self, case: &Case) -> Answer {
+        ask(native::parse, case, self.fresh_native(case.elements))
+    }
+
+    /// A table of so many elements for the judge, with its noise.
+    pub fn fresh_wanted(&mut self, elements: usize) -> &mut [u32] {
+        self.wanted.clear();
+        self.wanted.extend((0..elements).map(other_noise));
+        &mut self.wanted
+    }
+
+    /// The same for the proved parser, between its guards.
+    pub fn fresh_native(&mut self, elements: usize) -> &mut [u32] {
         self.native.clear();
-        self.native
-            .extend((0..case.elements + 2 * GUARD).map(noise));
-        let end = self.native.len() - GUARD;
-        ask(native::parse, case, &mut self.native[GUARD..end])
+        self.native.extend((0..elements + 2 * GUARD).map(noise));
+        &mut self.native[GUARD..GUARD + elements]
+    }
+
+    /// The judge's table after the call.
+    pub fn wanted(&self) -> &[u32] {
+        &self.wanted
+    }
+
+    /// Every element is the same, and nothing beside the table was written.
+    pub fn tables_agree(&self) -> bool {
+        self.wanted == self.native_table() && self.guards_kept()
     }
 
     fn native_table(&self) -> &[u32] {
@@ -112,25 +131,31 @@ impl Pair {
         want: &Answer,
         got: &Answer,
     ) -> Difference {
-        let mut what = answers(judge, want, got);
-        what += &elements(judge, &self.wanted, self.native_table());
-        if !self.guards_kept() {
-            what += "  written outside the table\n";
-        }
+        let what = answers("", judge, want, got) + &self.what_of_tables(judge);
         let line = |answer: &Answer, table: &[u32]| {
             case.line_with(answer, &tree::rows(table, answer.rows))
         };
         Difference {
-            case: case.clone(),
+            size: case.kinds.len(),
             what,
             judge,
             wanted_line: line(want, &self.wanted),
             native_line: line(got, self.native_table()),
         }
     }
+
+    /// What differs in the tables, or beside them.
+    pub fn what_of_tables(&self, judge: &str) -> String {
+        let mut what = elements(judge, &self.wanted, self.native_table());
+        if !self.guards_kept() {
+            what += "  written outside the table\n";
+        }
+        what
+    }
 }
 
-fn answers(judge: &str, want: &Answer, got: &Answer) -> String {
+/// Each part of an answer that differs; `of` says whose answer.
+pub fn answers(of: &str, judge: &str, want: &Answer, got: &Answer) -> String {
     let parts = [
         ("number", want.number, got.number),
         ("place", want.place, got.place),
@@ -139,7 +164,7 @@ fn answers(judge: &str, want: &Answer, got: &Answer) -> String {
     let mut what = String::new();
     for (name, want, got) in parts {
         if want != got {
-            writeln!(what, "  {name}: {judge} {want}, krosstavel {got}").unwrap();
+            writeln!(what, "  {of}{name}: {judge} {want}, krosstavel {got}").unwrap();
         }
     }
     what
@@ -183,10 +208,11 @@ mod tests {
             place,
             rows,
         };
-        assert_eq!(answers("oracle", &WANT, &WANT), "");
-        assert!(answers("oracle", &WANT, &got(6, 0, 2)).contains("number: oracle 0, krosstavel 6"));
-        assert!(answers("oracle", &WANT, &got(0, 1, 2)).contains("place: oracle 0, krosstavel 1"));
-        assert!(answers("oracle", &WANT, &got(0, 0, 3)).contains("rows: oracle 2, krosstavel 3"));
+        let told = |got| answers("job 5, ", "oracle", &WANT, &got);
+        assert_eq!(told(WANT), "");
+        assert!(told(got(6, 0, 2)).contains("job 5, number: oracle 0, krosstavel 6"));
+        assert!(told(got(0, 1, 2)).contains("place: oracle 0, krosstavel 1"));
+        assert!(told(got(0, 0, 3)).contains("rows: oracle 2, krosstavel 3"));
     }
 
     #[test]

@@ -12,6 +12,7 @@ pub mod deep;
 pub mod generate;
 mod grammar;
 pub mod known;
+pub mod night;
 mod parse;
 mod program;
 pub mod report;
@@ -60,6 +61,26 @@ pub struct Answer {
     pub rows: u32,
 }
 
+impl Answer {
+    /// An acceptance with so many rows.
+    pub fn accepted(rows: usize) -> Answer {
+        Answer {
+            number: 0,
+            place: 0,
+            rows: rows as u32,
+        }
+    }
+
+    /// A refusal.
+    pub fn refused(number: u32, place: u32) -> Answer {
+        Answer {
+            number,
+            place,
+            rows: 0,
+        }
+    }
+}
+
 /// Parses tokens into the table: its rows and then zeros on acceptance, zeros
 /// alone on a refusal. Only [`Entry::Exprs`] looks at the separator.
 pub fn parse(
@@ -70,35 +91,32 @@ pub fn parse(
     separator: u32,
     limit: u32,
 ) -> Answer {
-    let done = match refused(entry, kinds, lens, separator, limit) {
-        Some(refused) => Err(refused),
-        None => {
-            let mut p = Parser::new(kinds, lens, table, limit);
-            // Past 127 only where the separator is ignored.
-            let separator = Kind::of_token(u8::try_from(separator).unwrap_or(0));
-            match grammar::run(&mut p, entry, separator) {
-                Ok(()) => Ok(p.rows()),
-                Err(compile::Error) => Err(p.refused()),
-            }
-        }
-    };
+    let answer = parse_rows(entry, kinds, lens, table, separator, limit);
+    table[answer.rows as usize * ROW..].fill(0);
+    answer
+}
 
-    match done {
-        Ok(rows) => {
-            table[rows * ROW..].fill(0);
-            Answer {
-                number: 0,
-                place: 0,
-                rows: rows as u32,
-            }
-        }
-        Err((number, place)) => {
-            table.fill(0);
-            Answer {
-                number,
-                place,
-                rows: 0,
-            }
+/// The same, but what the table holds past the rows of the answer is left to the
+/// caller to clear: a refused parse may have written there.
+fn parse_rows(
+    entry: Entry,
+    kinds: &[u8],
+    lens: &[u32],
+    table: &mut [u32],
+    separator: u32,
+    limit: u32,
+) -> Answer {
+    if let Some((number, place)) = refused(entry, kinds, lens, separator, limit) {
+        return Answer::refused(number, place);
+    }
+    let mut p = Parser::new(kinds, lens, table, limit);
+    // Past 127 only where the separator is ignored.
+    let separator = Kind::of_token(u8::try_from(separator).unwrap_or(0));
+    match grammar::run(&mut p, entry, separator) {
+        Ok(()) => Answer::accepted(p.rows()),
+        Err(compile::Error) => {
+            let (number, place) = p.refused();
+            Answer::refused(number, place)
         }
     }
 }

@@ -1,92 +1,33 @@
 -- Written by tools/walk.py from the code and its program; docs/CONTRIBUTING.md says how.
 -- Assumes nothing.
-use Rattle.definition.specs.Parse.{exprs, program, isLimit}
-use Rattle.entry.specs.Whole.{entry-refused, entry-parsed, fitting}
-use Rattle.krosstavel.specs.Starting.{marked-start, limit-few, checked-valid, fine, treated-some}
-use mathlib.Core.Path.{sym, _∙_}
 use native.Mathlib.Omega.{arith}
+use Rattle.entry.specs.Table.{settled}
 -- ## The skeleton
 use borrow.Author.Needs.{needs}
 use Rattle.krosstavel.proofs.exprs.Statement.{statement}
 use Rattle.krosstavel.proofs.exprs.Tie as tie
 use Rattle.krosstavel.proofs.exprs.Reads as reads
 use Rattle.krosstavel.proofs.exprs.Lts as lts
-use Rattle.entry.proofs.begin.Reads as begin-reads
-use Rattle.entry.proofs.check.Reads as check-reads
-use Rattle.entry.proofs.finish.Reads as finish-reads
-use Rattle.entry.proofs.is_limit.Reads as is-limit-reads
-use Rattle.entry.proofs.is_separator.Reads as is-separator-reads
-use Rattle.entry.proofs.refuse.Reads as refuse-reads
-use Rattle.krosstavel.proofs.exprs_rule.Reads as exprs-rule-reads
+use Rattle.entry.proofs.settle.Reads as settle-reads
+use Rattle.krosstavel.proofs.exprs_rows.Reads as exprs-rows-reads
 
--- src/lib.rt:103:9
-is-limit-requires : tie.Need-is-limit-requires
-is-limit-requires c κs = search needs
+-- src/lib.rt:141:9
+exprs-rows-requires : tie.Need-exprs-rows-requires
+exprs-rows-requires c κs = search needs
 
--- src/lib.rt:103:34
-is-separator-requires : tie.Need-is-separator-requires
-is-separator-requires c κs = search needs
+-- src/lib.rt:142:5
+settle-requires : tie.Need-settle-requires
+settle-requires c κs =
+    omega (arith, c .before .before .before .exprs-rows .ensures .inside, c .before .before .before .exprs-rows .ensures .len)
 
--- src/lib.rt:102:9
-check-requires : tie.Need-check-requires
-check-requires c κs = search needs
-
--- src/lib.rt:108:9
-refuse-requires : tie.Need-refuse-requires
-refuse-requires c κs = search needs
-
--- src/lib.rt:108:9
+-- src/lib.rt:138:1
 same-length : tie.Need-same-length
 same-length c = search needs
 
--- src/lib.rt:108:9
+-- src/lib.rt:138:1
 returns : tie.Need-returns
 returns c =
-    entry-refused (exprs (c .before .before .before .before .before .before .before .before .before .before .before .before .args .separator)) (c .before .before .before .before .before .before .before .before .before .before .before .before .args .limit) (rw (c .before .before .before .before .before .before .before .before .is-limit .ensures, c .before .before .before .before .before .before .before .is-separator .ensures)) (c .before .before .before .before .before .before .check .ensures) (c .before .before .before .before .before .before .before .before .before .before .before .before .args .table .now) (c .before .before .before .before .if1 .taken) (c .before .before .refuse .ensures)
-
--- src/lib.rt:110:9
-begin-requires : tie.Need-begin-requires
-begin-requires c κs =
-    (limit-few (exprs (c .before .before .before .before .before .before .before .before .args .separator)) (c .before .before .before .before .before .before .before .before .args .limit) (rw (c .before .before .before .before .is-limit .ensures, c .before .before .before .is-separator .ensures)) (c .before .before .check .ensures) (c .if1 .left), c .before .before .check .ensures .sized (c .if1 .left))
-
--- src/lib.rt:111:27
-cast-exprs-rule : tie.Need-cast-exprs-rule
-cast-exprs-rule c =
-    omega (arith, fine (isLimit (c .before .before .before .before .before .before .before .before .before .args .limit)) (c .before .before .before .before .before .before .before .before .before .args .separator) (sym (rw (c .before .before .before .before .before .is-limit .ensures, c .before .before .before .before .is-separator .ensures)) ∙ checked-valid (c .before .before .before .check .ensures) (c .before .if1 .left)) .small)
-
--- src/lib.rt:111:9
-exprs-rule-requires : tie.Need-exprs-rule-requires
-exprs-rule-requires c κs =
-    (marked-start (c .before .before .before .before .before .before .before .before .before .before .args .table .now) (c .before .begin .ensures), treated-some (fine (isLimit (c .before .before .before .before .before .before .before .before .before .before .args .limit)) (c .before .before .before .before .before .before .before .before .before .before .args .separator) (sym (rw (c .before .before .before .before .before .before .is-limit .ensures, c .before .before .before .before .before .is-separator .ensures)) ∙ checked-valid (c .before .before .before .before .check .ensures) (c .before .before .if1 .left))), c .before .begin .ensures .ready (c .before .before .before .before .before .before .before .before .before .before .args .table .now))
-
--- src/lib.rt:112:5
-finish-requires : tie.Need-finish-requires
-finish-requires c κs =
-    fitting (c .before .before .before .exprs-rule .ensures)
-
--- src/lib.rt:99:1
-same-length-2 : tie.Need-same-length-2
-same-length-2 c = search needs
-
--- src/lib.rt:99:1
-returns-2 : tie.Need-returns-2
-unfolding program
-returns-2 c =
-    entry-parsed (exprs (c .before .before .before .before .before .before .before .before .before .before .before .before .before .before .before .before .before .args .separator)) (c .before .before .before .before .before .before .before .before .before .before .before .before .before .before .before .before .before .args .limit) (rw (c .before .before .before .before .before .before .before .before .before .before .before .before .before .is-limit .ensures, c .before .before .before .before .before .before .before .before .before .before .before .before .is-separator .ensures)) (c .before .before .before .before .before .before .before .before .before .before .before .check .ensures) (c .before .before .before .before .before .before .before .before .before .before .before .before .before .before .before .before .before .args .table .now) (c .before .before .before .before .before .before .before .before .before .if1 .left) (c .before .before .before .before .before .before .before .before .begin .ensures) (c .before .before .before .before .before .before .exprs-rule .ensures) (c .before .before .finish .ensures)
+    settled (c .before .before .before .before .before .before .exprs-rows .ensures) (c .before .before .settle .ensures)
 
 pub exprs-spec : {M : Type 1} → statement M
-exprs-spec =
-    tie.close
-    (tie.spec
-    is-limit-requires
-    is-separator-requires
-    check-requires
-    refuse-requires
-    same-length
-    returns
-    begin-requires
-    cast-exprs-rule
-    exprs-rule-requires
-    finish-requires
-    same-length-2
-    returns-2)
+exprs-spec = tie.close (tie.spec exprs-rows-requires settle-requires same-length returns)

@@ -1,0 +1,4 @@
+pub mod Promise
+pub mod Rounds
+pub mod Steps
+pub mod Callers
