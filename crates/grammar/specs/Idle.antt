@@ -12,6 +12,7 @@ use Rattle.definition.specs.Modes.{Brace, Binary, ExprCx, isBinary}
 use Rattle.definition.specs.Operators.{from-slice, isNone}
 use Rattle.definition.specs.Prog.{Mark}
 use Rattle.definition.specs.Grammar.{binary-turn, expr-binary, expr-binary-text, outer-binary, grammar}
+use Rattle.laws.specs.Bools.{and-first}
 use Rattle.kinds.specs.Ops.{opOf, Looked}
 use Rattle.kinds.specs.declared.operators.Op.{Op}
 use Rattle.tape.specs.View.{Ready, Step}
@@ -38,13 +39,9 @@ looks-once binary t ks {j = j} l e f h =
     let g = h ∙ (ap isNone (l .is) ∙ (ap (λ (x : ℕ). isNone (from-slice x j)) e ∙ first-alone (nthKind 0 (drop (t .at) ks)) j (nthKind 1 (drop (t .at) ks)))) in
     rw (f, g)
 
-left-one : (a b : Bool) → (a && b) ≡ true → a ≡ true
-left-one true b h = refl
-left-one false b h = absurd (false≢true h)
-
 pub looked-for : (binary : Binary) (t : Tape) (ks : List ℕ) → operatorsNext binary t ks ≡ true → isBinary binary ≡ true
 unfolding operatorsNext
-looked-for binary t ks h = left-one (isBinary binary) (not (isNone (aheadOf t ks)) || eqb (t .left) 0) h
+looked-for binary t ks h = and-first (isBinary binary) (not (isNone (aheadOf t ks)) || eqb (t .left) 0) h
 
 none-next : (a n z : Bool) → (a && (not n || z)) ≡ false → a ≡ true → (n ≡ true) × (z ≡ false)
 none-next true true false h e = (refl, refl)

@@ -12,6 +12,7 @@ use Rattle.definition.specs.Classes.{isAssigned, treated, isToken, isTrivia, is
 use Rattle.definition.specs.Tape.{State, ok, guard, startOf, leavesLen}
 use Rattle.definition.specs.Prog.{Prog}
 use Rattle.definition.specs.Parse.{Entry, start, admitted, root, exprs, format, isLimit, isEntry}
+use Rattle.laws.specs.Bools.{and-first, and-second}
 use Rattle.laws.specs.Progress.{not-eof}
 use Rattle.laws.specs.Sizes.{Based}
 use Rattle.tape.specs.View.{Marked, Step}
@@ -61,15 +62,6 @@ checked-valid {valid = valid} {ks = ks} {ls = ls} c z = go valid (c .passes z (�
     go : (b : Bool) → admitted b ks ls (λ u. ok (tt {0}) start) ≡ ok tt start → b ≡ true
     go true e = refl
     go false e = absurd (let x : _≡_ {A = ℕ} 0 1 = cc in omega arith)
-
-and-first : (a b : Bool) → (a && b) ≡ true → a ≡ true
-and-first true b h = refl
-and-first false b h = h
-
-and-second : (a b : Bool) → (a && b) ≡ true → b ≡ true
-and-second true b h = h
-and-second false true h = refl
-and-second false false h = h
 
 -- a limit that is let pass fits the tape's count of entries
 pub limit-few : (e : Entry) (limit : ℕ) {valid : Bool} {ks ls : List ℕ} {a : Refusal} → valid ≡ (isLimit limit && isEntry e) → Checked valid ks ls a → a .number ≡ 0 → limit ≤ 65535

@@ -34,7 +34,7 @@ abbrev refused-at : Entry → List ℕ → List ℕ → ℕ → ℕ → ℕ → 
 refused-at e ks ls n d number place = record { entry = e; kinds = ks; lens = ls; size = n; limit = d; number = number; place = place; rows = [] }
 
 -- kind, back, start byte, byte length
-abbrev row : ℕ → ℕ → ℕ → ℕ → List ℕ
+abbrev pub row : ℕ → ℕ → ℕ → ℕ → List ℕ
 row kind back start len = kind ∷ back ∷ start ∷ len ∷ []
 
 -- room enough

@@ -8,3 +8,5 @@ pub mod Known
 pub mod Progress
 pub mod Flat
 pub mod Nights
+pub mod Bools
+pub mod KnownNight

@@ -14,6 +14,7 @@ use Rattle.definition.specs.Tape.{Out, ok, refused, fault, guard}
 use Rattle.definition.specs.Parse.{root, exprs, format, parse, flat, numberOf, placeOf, rowsOf}
 use Rattle.definition.specs.Night as definition
 use Rattle.definition.specs.Night.{entryOf, part, outcome, refusal}
+use Rattle.laws.specs.Bools.{and-second}
 use Rattle.entry.specs.declared.Outcome.{Outcome}
 use Rattle.entry.specs.declared.Outcome.the-variants.{Refused}
 use Rattle.entry.specs.declared.Answer.{Answer}
@@ -64,11 +65,6 @@ entry-format {e} separator z o = rw (ne-eqb e 0 z, ne-eqb e 1 o)
 -- as the code finds it
 abbrev pub Inside : Job → ℕ → Bool
 Inside j n = leb (j .entry) 2 && leb (j .first + j .count) n
-
-and-second : (a b : Bool) → (a && b) ≡ true → b ≡ true
-and-second true b h = h
-and-second false true h = refl
-and-second false false h = h
 
 pub inside-ends : {b : Bool} {n : ℕ} (j : Job) → b ≡ Inside j n → not b ≡ false → j .first + j .count ≤ n
 inside-ends {b} {n} j e h = leb-true (j .first + j .count) n (and-second (leb (j .entry) 2) (leb (j .first + j .count) n) (sym e ∙ not-false b h))

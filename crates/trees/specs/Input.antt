@@ -2,7 +2,7 @@
 -- Assumes nothing.
 use Prim.Native.Nat.{ℕ, zero, suc, _-_, _≤_}
 use mathlib.Core.Path.{_≡_, refl}
-use mathlib.Core.Bool.{Bool, true, false, false≢true, _&&_}
+use mathlib.Core.Bool.{Bool, true, false, _&&_}
 use mathlib.Core.List.{List, [], _∷_}
 use native.Mathlib.Omega.{arith}
 use lib.ListN.{length, drop}
@@ -12,6 +12,7 @@ use Rattle.definition.specs.Kinds.{Eof}
 use Rattle.definition.specs.Classes.{isTrivia, isToken, isAssigned, treated}
 use Rattle.definition.specs.Tape.{Out, refused, guard, triv, nthKind}
 use Rattle.definition.specs.Parse.{Entry, program, firstNot, firstOver, isLimit, isEntry, admitted, run, start, parse, numberOf}
+use Rattle.laws.specs.Bools.{and-first}
 use Rattle.laws.specs.Looking.{skipped}
 use Rattle.trees.specs.Forest.{Tok, kinds, lens, inOf}
 
@@ -100,14 +101,6 @@ unfolding numberOf
 parsed e ks ls n limit = let-in e ks ls n limit (λ o. numberOf o ≡ 0 → Parsed e ks ls limit) (λ k pl a b c z. absurd (omega arith)) (λ x z. x)
 
 -- ## Where a token is no longer seen, none is left
-
-pub and-first : (a b : Bool) → (a && b) ≡ true → a ≡ true
-and-first true b h = refl
-and-first false b h = h
-
-pub and-second : (a b : Bool) → (a && b) ≡ true → b ≡ true
-and-second true b h = h
-and-second false b h = absurd (false≢true h)
 
 pub treated-some : (k : ℕ) → isToken k ≡ true → treated k ≡ Eof → ⊥
 unfolding isToken treated

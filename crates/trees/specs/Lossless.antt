@@ -11,9 +11,10 @@ use Rattle.definition.specs.Kinds.{Root}
 use Rattle.definition.specs.Classes.{isToken}
 use Rattle.definition.specs.Tape.{Row, State, ok}
 use Rattle.definition.specs.Parse.{Entry, parse, numberOf}
+use Rattle.laws.specs.Bools.{and-second}
 use Rattle.trees.specs.Forest.{Tok, Forest, none, leaf, node, _⊕_, size, bytes, leaves, rows, leafs, kinds, lens, bytes-app, rows-app}
 use Rattle.trees.specs.Planted.{Nodes}
-use Rattle.trees.specs.Input.{tokens, Kinds, tokens-kinds, tokens-lens, kinds-first, parsed, and-second}
+use Rattle.trees.specs.Input.{tokens, Kinds, tokens-kinds, tokens-lens, kinds-first, parsed}
 use Rattle.trees.specs.Sound.{Named}
 use Rattle.trees.specs.Nested.{nested}
 

@@ -12,9 +12,10 @@ use Rattle.definition.specs.Tape.{State, Out, ok, refused, fault, andThen, guar
 use Rattle.definition.specs.Prog.{call}
 use Rattle.definition.specs.Grammar.{grammar}
 use Rattle.definition.specs.Parse.{Entry, isLimit, isEntry, program, run, start, parse}
+use Rattle.laws.specs.Bools.{and-second}
 use Rattle.trees.specs.Forest.{Tok, Forest, none, node, leaves, rows, st, kinds, inOf, kinds-length}
 use Rattle.trees.specs.Planted.{Nodes, Wider, Plants, node-wrote}
-use Rattle.trees.specs.Input.{tokens, Kinds, let-in, and-second}
+use Rattle.trees.specs.Input.{tokens, Kinds, let-in}
 use Rattle.trees.specs.Root.{before, closed-last, Post, AtEnd, before-at-end}
 use Rattle.trees.specs.Sound.{Named, Fine, here-within}
 use Rattle.trees.specs.Rules.{entries, before-sound}

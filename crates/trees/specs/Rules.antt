@@ -16,8 +16,9 @@ use Rattle.definition.specs.Prog.{Rule, stmt-rule, item-use-rule, pat-rule, pat
 use Rattle.definition.specs.Grammar as g
 use Rattle.definition.specs.Parse.{Entry, root, exprs, format, isEntry, run}
 use Rattle.laws.specs.Progress as far
+use Rattle.laws.specs.Bools.{and-first}
 use Rattle.trees.specs.Forest.{Tok, inOf}
-use Rattle.trees.specs.Input.{and-first, treated-some}
+use Rattle.trees.specs.Input.{treated-some}
 use Rattle.trees.specs.Root.{before}
 use Rattle.trees.specs.Sound.{Within, Fine, Any, Asks, Entries, Sound, Under, Safe, here-within, fine-then, fine-stay, free, s-done, s-seq, s-flush, s-bump}
 use Rattle.trees.specs.Pieces.{steps, while-next, while-token, bump-while-safe, path-text-safe, pat-text-safe, pat-list-safe, item-struct-safe, item-use-safe, item-use-text-safe, item-enum-safe}

@@ -213,6 +213,39 @@ mod tests {
         assert_eq!(answers("1", &[no_separator, root, no_limit, outside]), want);
     }
 
+    /// Each kind of job once. The definition computes the same night (`KnownNight.antt` in `crates/laws`).
+    #[test]
+    fn the_known_night() {
+        let with_limit = |limit, job| Job { limit, ..job };
+        let of = |entry, job| Job { entry, ..job };
+        let jobs = [
+            exprs(2, 5),
+            with_limit(0, of(3, exprs(0, 1))),
+            exprs(0, 1),
+            of(0, exprs(7, 1)),
+            with_limit(1, exprs(2, 1)),
+            of(0, exprs(7, 0)),
+            of(2, exprs(0, 1)),
+        ];
+        let want = [
+            Answer::refused(7, 2),
+            Answer::refused(12, 0),
+            Answer::accepted(4),
+            Answer::refused(12, 0),
+            Answer::refused(10, 0),
+            Answer::accepted(1),
+            Answer::refused(11, 1),
+        ];
+        let (answer, answers, table) = run("1,a==b==c", &jobs, 30);
+        assert_eq!((answer, answers), (Answer::accepted(5), want.to_vec()));
+        #[rustfmt::skip]
+        assert_eq!(table[..20], [
+            9, 0, 0, 1, 165, 1, 0, 1, 129, 2, 0, 1, 128, 3, 0, 1,
+            128, 0, 0, 0,
+        ]);
+        assert_eq!(table[20..], [0; 10]);
+    }
+
     /// Refused as a whole: the table is zeros, and no record changes.
     #[test]
     fn the_whole_night_refused() {
