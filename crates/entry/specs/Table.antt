@@ -7,7 +7,7 @@ use native.Mathlib.Omega.{arith}
 use native.Mathlib.Numerals.{add-one}
 use lib.ListN.{length, take, drop, getD, set, replicate, length-set, length-append, length-drop, length-replicate, replicate-append-replicate, take-append-drop}
 use lib.Seq.{drop-cons, drop-length, take-add, length-take-le, append-snoc, getD-drop, set-at}
-use Rattle.definition.specs.Tape.{Row, Out, refused, elements}
+use Rattle.definition.specs.Tape.{Out, refused, elements}
 use Rattle.definition.specs.Parse.{flat, rowsOf, tableOf}
 use Rattle.laws.specs.Flat.{flat-append}
 use Rattle.tape.specs.View.{stateOf, rowAt, rowsIn, outOf}

@@ -1,16 +1,16 @@
 -- What whoever calls can rely on, from the promise alone: nothing is left open, a refused call leaves the records, each job is the single call on its range
 -- and on what is free, a night of one job is the single call, and a refused job changes nothing for the others.
 -- Assumes nothing.
-use Prim.Native.Nat.{ℕ, zero, suc, _+_, _-_, _*_, _≤_, _<_, min}
+use Prim.Native.Nat.{ℕ, zero, suc, _+_, _-_, _*_, _≤_, min}
 use mathlib.Core.Path.{_≡_, refl, ap, sym, _∙_}
-use mathlib.Core.Bool.{Bool, true, false, _&&_}
+use mathlib.Core.Bool.{Bool, true, false}
 use mathlib.Core.List.{List, [], _∷_, _++_, map, append-assoc}
 use native.Mathlib.Omega.{arith}
 use lib.ListN.{length, take, drop, getD, replicate, length-append, length-map, List·getD-map}
 use lib.Seq.{take-at, drop-at, getD-at, append-snoc}
 use lib.Dec.{leb}
 use borrow.Author.Tests.{le-leb, leb-true}
-use Rattle.definition.specs.Tape.{Row, Out}
+use Rattle.definition.specs.Tape.{Out}
 use Rattle.definition.specs.Parse.{parse, flat, numberOf, placeOf, rowsOf, tableOf}
 use Rattle.definition.specs.Night as definition
 use Rattle.definition.specs.Night.{Night, entryOf, part, outcome, night, refusal, batch, tableAfter}

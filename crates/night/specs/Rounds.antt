@@ -2,14 +2,11 @@
 -- Assumes nothing.
 use Prim.Native.Nat.{ℕ, zero, suc, _+_, _-_, _*_, _≤_, _<_, min}
 use mathlib.Core.Path.{_≡_, refl, ap, sym, _∙_}
-use mathlib.Core.Bool.{Bool, true, false}
-use mathlib.Core.List.{List, [], _∷_, _++_, map, append-nil, append-assoc}
+use mathlib.Core.List.{List, [], _∷_, _++_, map, append-nil}
 use native.Mathlib.Omega.{arith}
 use native.Mathlib.Numerals.{add-one}
-use lib.ListN.{length, take, drop, getD, set, replicate, length-set, length-append, length-map}
+use lib.ListN.{length, take, drop, getD, set, length-set, length-append, length-map}
 use lib.Seq.{drop-drop, drop-set-lt, getD-drop, take-all, take-suc, take-suc-set}
-use lib.Dec.{eqb}
-use borrow.Author.Tests.{eq-eqb, ne-eqb}
 use Rattle.definition.specs.Tape.{Row, Out}
 use Rattle.definition.specs.Parse.{flat, numberOf, placeOf, rowsOf}
 use Rattle.definition.specs.Night as definition
