@@ -1,5 +1,7 @@
 // What every public call does round the parse: refusals 1 to 5 in their order over the whole input, then a tape that is ready, and after the parse
 // the outcome and the zeros behind its rows.
+#![tactic(auto)]
+
 ghost use Rattle.std.specs.Prelude.{◌≡◌, ◌++◌, ℕ, ◌-◌, ◌*◌, ◌≤◌, length, take, replicate};
 ghost use Rattle.definition.specs.Classes.{is_token};
 ghost use Rattle.definition.specs.Parse.{exprs, is_limit, is_entry, first_not, first_over};
@@ -11,7 +13,7 @@ ghost use Rattle.entry.specs.Round.{Checked, Starts, Counted, Came, Zeroed};
 use tape::Tape;
 
 // What a call ends in.
-#[derive(Drop)]
+#[derive(Clone, Copy)]
 pub enum Outcome {
     Tree { rows: u32 },
     Refused { number: u32, place: u32 },
@@ -19,7 +21,7 @@ pub enum Outcome {
 
 // The same for C: number and place are 0 where there is a tree, and rows where there is none.
 #[repr(C)]
-#[derive(Drop)]
+#[derive(Clone, Copy)]
 pub struct Answer {
     pub number: u32,
     pub place: u32,
@@ -27,7 +29,7 @@ pub struct Answer {
 }
 
 // What is wrong with an input before it is parsed: a refusal from 1 to 5, or number 0.
-#[derive(Drop)]
+#[derive(Clone, Copy)]
 pub struct Refusal {
     pub number: u32,
     pub place: u32,

@@ -1,4 +1,6 @@
 // Every call for C: what the archive has. Each hands its arguments on, and its answer is three numbers.
+#![tactic(auto)]
+
 ghost use Rattle.std.specs.Prelude.{length};
 ghost use Rattle.definition.specs.Parse.{root as root_entry, exprs as exprs_entry, format as format_entry};
 ghost use Rattle.entry.specs.Promise.{Answered};

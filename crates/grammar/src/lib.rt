@@ -1,6 +1,8 @@
 // The rules of grammar.rs that hold expressions, blocks and statements: one cycle of calls, proved equal to the definition together.
 // The toolchain joins the names of a cycle into one file name, which a library holds up to 249 bytes. So a rule is declared under one or two letters, below a comment
 // with the Rust's name and line, and called by its full name, which the list of `use self::` gives it.
+#![tactic(auto)]
+
 ghost use Rattle.std.specs.Prelude.{◌≡◌, ◌<◌};
 ghost use Rattle.definition.specs.Prog.{mark as marking};
 ghost use Rattle.definition.specs.Grammar.{block, block_body, block_open, block_stmts, block_with, chain_link, chain_step, closure_arguments, condition, condition_init, condition_let, else_branch, else_branches, else_if, empty_group, expr_after, expr_binary, expr_binary_text, expr_chain, expr_for, expr_if, expr_if_any, expr_list, expr_loop, expr_match, expr_object, expr_primary, expr_range, expr_select, expr_tuple_or_group, expr_while, expr_with, for_in, item_const, item_fn, item_impl, item_mod, items, local, match_case, match_list, nest, object_fields, operand, outer_binary, outer_expr_with, outer_expr_with_text, parenthesized, primary_path, range_rest, range_to, select_case, select_list, select_pat, stmt, stmt_expr, stmt_mod, stmt_once, stmt_text, tuple_items, expr as expr_prog};

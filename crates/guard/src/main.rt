@@ -1,5 +1,7 @@
 // Prints the tree of a stored guard. Standard input has three lines: the guard's text, the kinds of its tokens, and their lengths in bytes. The file
 // `kinds` has the kinds' names, as docs/KINDS.md lists them.
+#![tactic(auto)]
+
 mod names;
 mod tree;
 

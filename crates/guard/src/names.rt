@@ -6,7 +6,7 @@ use libc::STDOUT_FILENO;
 use text::Listed;
 
 // Part of a list, from here up to there.
-#[derive(Drop)]
+#[derive(Clone, Copy)]
 struct Part {
     from: usize,
     to: usize,

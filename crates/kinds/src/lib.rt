@@ -1,5 +1,7 @@
 // The kinds: a constant for each row of docs/KINDS.md, with the row's name behind it, and the tests on kinds that the grammar makes.
 // The constants are read by tools/check-kinds, which holds them to that page.
+#![tactic(auto)]
+
 pub mod classes; // classes.rt: which kinds begin what
 pub mod modes; // modes.rt: the modes of the rules
 pub mod matcher; // matcher.rt: the brackets that a token stream counts

@@ -5,7 +5,7 @@ ghost use Rattle.kinds.specs.Matchers.{matcher_of, Leveled};
 
 use super::{BRACE, BRACE_END, BRACKET, BRACKET_END, PAREN, PAREN_END};
 
-#[derive(Drop)]
+#[derive(Clone, Copy)]
 pub enum Matcher {
     Brackets,
     Parens,

@@ -4,33 +4,33 @@ ghost use Rattle.std.specs.Prelude.{◌≡◌};
 ghost use Rattle.definition.specs.Modes.{is_brace, is_ranged, is_binary, recovers as recovering, are_exprs};
 ghost use Rattle.kinds.specs.Modes.{brace_of, range_of, binary_of, cx_of, listed_of};
 
-#[derive(Drop)]
+#[derive(Clone, Copy)]
 pub enum Brace {
     Yes,
     No,
 }
 
-#[derive(Drop)]
+#[derive(Clone, Copy)]
 pub enum Range {
     Yes,
     No,
 }
 
-#[derive(Drop)]
+#[derive(Clone, Copy)]
 pub enum Binary {
     Yes,
     No,
 }
 
 // `dyn ExprCx`: ErrorCx refuses, StmtCx looks for the end of the statement.
-#[derive(Drop)]
+#[derive(Clone, Copy)]
 pub enum ExprCx {
     ErrorCx,
     StmtCx,
 }
 
 // The function pointers of `parenthesized`: `is_expr` and `expr`, or `is_pat` and `pat`.
-#[derive(Drop)]
+#[derive(Clone, Copy)]
 pub enum Listed {
     Exprs,
     Pats,

@@ -7,7 +7,7 @@ ghost use Rattle.kinds.specs.Ops.{op_of, Binds, Looked};
 use super::{DASH, GT_GT_EQ, IS, NOT};
 
 // An operator: its binding, 0 where there is none, and how many tokens it takes. A higher binding binds tighter.
-#[derive(Drop)]
+#[derive(Clone, Copy)]
 pub struct Op {
     pub binding: u8,
     pub tokens: u8,

@@ -1,4 +1,6 @@
 // The three entries. Each is total: any lists, table and limits end in a tree or a numbered refusal with its place.
+#![tactic(auto)]
+
 ghost use Rattle.std.specs.Prelude.{◌≡◌, length};
 ghost use Rattle.definition.specs.Grammar.{root as root_prog, exprs as exprs_prog, format as format_prog, close_root};
 ghost use Rattle.definition.specs.Parse.{root as root_entry, exprs as exprs_entry, format as format_entry};

@@ -1,1 +1,2 @@
 // Operator lines: demand 3, as theorems about the definition. No code.
+#![tactic(auto)]

@@ -1,4 +1,6 @@
 // A night's worth of scripts: jobs over shared lists and one table. They run in order, each into the table behind the rows of those before it, and the rest is cleared once.
+#![tactic(auto)]
+
 ghost use Rattle.std.specs.Prelude.{◌≡◌, ◌&&◌, ℕ, ◌+◌, min, length, leb};
 ghost use Rattle.definition.specs.Night.{entry_of, outcome};
 ghost use Rattle.entry.specs.Promise.{Leaves, Wrote};
@@ -9,7 +11,7 @@ use entry::{Answer, Outcome};
 
 // What a job asks, and its answer.
 #[repr(C)]
-#[derive(Drop)]
+#[derive(Clone, Copy)]
 pub struct Job {
     pub entry: u32,
     pub separator: u32,
@@ -20,7 +22,7 @@ pub struct Job {
 }
 
 // How many jobs are run: none where the whole call is refused, by this number.
-#[derive(Drop)]
+#[derive(Clone, Copy)]
 pub struct Plan {
     pub number: u32,
     pub jobs: usize,

@@ -1,4 +1,6 @@
 // The rules of grammar.rs that hold no expression, each proved equal to its program of the definition.
+#![tactic(auto)]
+
 pub mod streams; // token streams, attributes, labels
 pub mod paths; // paths and modifiers
 pub mod patterns; // patterns

@@ -1,5 +1,7 @@
 // Replays the oracle's fixed list, with no Rust at hand: each line of standard input is a case with its answer (oracle/README.md, "A case").
 // The parser is asked the case, and number, place, row count and every element of the table are compared. One line says how many differ.
+#![tactic(auto)]
+
 mod case;
 mod table;
 mod wanted;
@@ -15,7 +17,7 @@ use libc::{STDIN_FILENO, STDOUT_FILENO};
 use text::{Listed, Reading};
 
 // How many cases there were, how many differ, and the line of the first that does (0: none).
-#[derive(Drop)]
+#[derive(Clone, Copy)]
 struct Tally {
     cases: usize,
     differ: usize,
@@ -23,21 +25,21 @@ struct Tally {
 }
 
 // How far the input is read: where in a line, and what the lines before it came to.
-#[derive(Drop)]
+#[derive(Clone, Copy)]
 struct Place {
     reading: Reading,
     tally: Tally,
 }
 
 // A place, and whether the input may go on behind it.
-#[derive(Drop)]
+#[derive(Clone, Copy)]
 struct Turn {
     place: Place,
     more: bool,
 }
 
 // The tally of the whole input, or of the part of it that is read at most.
-#[derive(Drop)]
+#[derive(Clone, Copy)]
 struct Whole {
     tally: Tally,
     whole: bool,

@@ -4,7 +4,7 @@ ghost use Rattle.std.specs.Prelude.{◌≡◌, ◌+◌, ◌-◌, ◌*◌, ◌≤
 ghost use Rattle.replay.specs.Wanted.{row_put, start_of, node_put, rows_of};
 
 // What `rows` answers: so many rows, or that the shape is none, has too few tokens, or has more rows or bytes than fit.
-#[derive(Drop)]
+#[derive(Clone, Copy)]
 pub enum Wanted {
     Rows(usize),
     Broken,

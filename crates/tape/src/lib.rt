@@ -1,4 +1,6 @@
 // The tape of document 01: a small state that goes in and comes back by value, over lent lists and a lent table.
+#![tactic(auto)]
+
 ghost use Rattle.std.specs.Prelude.{◌≡◌, [], ◌∷◌, ℕ, ◌+◌, ◌*◌, ◌≤◌, ◌<◌, length, drop, get_or};
 ghost use Rattle.std.proofs.lemmas.List.Edits.{sets};
 ghost use Rattle.definition.specs.Tape.{nth_kind, glued_kind, start_of, capacity as capacity_of};
@@ -12,7 +14,7 @@ use kinds::operators::Op;
 
 // The state. After each call that writes, `no` is tested: 0 goes on, and another number is a refusal, at the place that `byte` then holds.
 // It is copied at each call that is not inlined, so it is short: no field that another can stand for, the widest first, and no padding (docs/BENCH.md has what that won).
-#[derive(Drop)]
+#[derive(Clone, Copy)]
 pub struct Tape {
     pub at: usize, // the next token not yet written, trivia included
     pub next: usize, // the next one that is no trivia ("here"), or the token count

@@ -1,10 +1,12 @@
 // Lines of decimal numbers with one space between two: what the programs read their stored lists with, a byte at a time.
+#![tactic(auto)]
+
 ghost use Rattle.std.specs.Prelude.{◌≡◌, ltb, length, set};
 ghost use Rattle.text.specs.Line.{longer, stepped, stored, ended, kept, listed, filled};
 ghost use Rattle.text.specs.Copy.{all_bytes, fits, copied};
 
 // A line, read up to some byte.
-#[derive(Drop)]
+#[derive(Clone, Copy)]
 pub enum Reading {
     // So many numbers are stored, and a digit must follow. (Before the first the line may end too.)
     Before(usize),
@@ -15,7 +17,7 @@ pub enum Reading {
 }
 
 // What a whole line is: a list of so many numbers, or none.
-#[derive(Drop)]
+#[derive(Clone, Copy)]
 pub enum Listed {
     Numbers(usize),
     Nothing,

@@ -1,1 +1,2 @@
 // Trees: theorems about the rows of an accepted table. No code.
+#![tactic(auto)]
