@@ -1,0 +1,13 @@
+-- `kinds::modes::is_brace` meets its contract: each arm is given which mode it is.
+-- Assumes nothing.
+use borrow.Author.Rules.{rules}
+use Rattle.definition.specs.Modes.{is_brace}
+use Rattle.kinds.proofs.modes.is_brace.Goals as goal
+
+pub returns-in-Yes : goal.returns-in-Yes
+unfolding is_brace
+returns-in-Yes c = search rules
+
+pub returns-in-No : goal.returns-in-No
+unfolding is_brace
+returns-in-No c = search rules
