@@ -1,0 +1,41 @@
+
+use Rattle.definition.specs.Grammar.{advance}
+use Rattle.tape.specs.Steps.{Loop, Onward, fuel, burns, marked_now, step_marked, both, cut, if_yes, if_no, ask, scoped, unscoped, nothing, answered, ready_answer, answer, ends, inv_start, inv_again, inv_end, last, last_cut, bumped}
+use Rattle.tape.specs.View.{Step, Ran, said}
+use borrow.Author.Tests.{eq-eqb, ne_eqb}
+use native.Mathlib.Omega.{arith}
+use mathlib.Core.Path.{◌≡◌, refl, sym, ap, ◌∙◌}
+use Prim.Native.Nat.{ℕ, zero, suc, ◌+◌, ◌-◌, ◌*◌, ◌≤◌, ◌<◌, ◌/◌}
+use borrow.Author.Rules.{rules}
+use Rattle.tape.proofs.Tape.advance.Goals as goal
+
+pub bump-t-requires : goal.bump-t-requires
+bump-t-requires c = c.requires
+
+pub shape_of-table-then-t-ne0 : goal.shape_of-table-then-t-ne0
+shape_of-table-then-t-ne0 c = (c.bump-t.ensures.under 0).len
+
+pub returns-then-t-ne0 : goal.returns-then-t-ne0
+unfolding advance
+returns-then-t-ne0 c = record { under = λ m. if_yes (eq-eqb _ _ c.if-op-eq2.true) (cut (c.bump-t.ensures.under _) c.if-t-ne0.true) }
+
+pub bump-requires : goal.bump-requires
+bump-requires c = (c.bump-t.ensures.under 0).ready c.if-t-ne0.false
+
+pub shape_of-table-then-op-eq2 : goal.shape_of-table-then-op-eq2
+shape_of-table-then-op-eq2 c = (c.bump.ensures.under 0).len ∙ (c.bump-t.ensures.under 0).len
+
+pub returns-then-op-eq2 : goal.returns-then-op-eq2
+unfolding advance
+returns-then-op-eq2 c =
+    record { under = λ m. if_yes (eq-eqb _ _ c.if-op-eq2.true) (both (c.bump-t.ensures.under _) c.if-t-ne0.false (c.bump.ensures.under _)) }
+
+pub bump-requires-2 : goal.bump-requires-2
+bump-requires-2 c = c.requires
+
+pub shape_of-table : goal.shape_of-table
+shape_of-table c = (c.bump-2.ensures.under 0).len
+
+pub returns : goal.returns
+unfolding advance
+returns c = record { under = λ m. if_no (ne_eqb _ _ c.if-op-eq2.false) (c.bump-2.ensures.under _) }

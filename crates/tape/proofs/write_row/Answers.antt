@@ -1,0 +1,20 @@
+
+use lib.ListN.{length-set}
+use native.Mathlib.Numerals.{add-one, towards_suc}
+use native.Mathlib.Omega.{arith}
+use mathlib.Core.Path.{◌≡◌, refl, sym, ap, ◌∙◌}
+use Prim.Native.Nat.{ℕ, zero, suc, ◌+◌, ◌-◌, ◌*◌, ◌≤◌, ◌<◌, ◌/◌}
+use borrow.Author.Rules.{rules}
+use Rattle.tape.proofs.write_row.Goals as goal
+
+pub bounds-table-rows-2 : goal.bounds-table-rows-2
+bounds-table-rows-2 c = simp length-set (omega arith)
+
+pub bounds-table-rows-3 : goal.bounds-table-rows-3
+bounds-table-rows-3 c = simp length-set (omega arith)
+
+pub bounds-table-rows-4 : goal.bounds-table-rows-4
+bounds-table-rows-4 c = simp length-set (omega arith)
+
+pub returns : goal.returns
+returns c = simp towards_suc
