@@ -174,7 +174,7 @@ fn variant_item(tape: Tape, kinds: &[u8], lens: &[u32], table: &mut [u32]) -> Ta
 }
 
 // item_use (371): counted.
-#[cycle(item_use_item_use_text_use_group_use_item_use_parts_use_path_use_paths)]
+#[cycle(uses)]
 pub fn item_use(tape: Tape, kinds: &[u8], lens: &[u32], table: &mut [u32]) -> Tape
     requires { Ready tape kinds.now lens.now table.old }
     ensures { Ran item_use tt tape result kinds.now lens.now table.old table.new }
@@ -191,7 +191,7 @@ pub fn item_use(tape: Tape, kinds: &[u8], lens: &[u32], table: &mut [u32]) -> Ta
 }
 
 // item_use (371).
-#[cycle(item_use_item_use_text_use_group_use_item_use_parts_use_path_use_paths)]
+#[cycle(uses)]
 fn item_use_text(tape: Tape, kinds: &[u8], lens: &[u32], table: &mut [u32]) -> Tape
     requires { Ready tape kinds.now lens.now table.old }
     ensures { Ran item_use_text tt tape result kinds.now lens.now table.old table.new }
@@ -204,7 +204,7 @@ fn item_use_text(tape: Tape, kinds: &[u8], lens: &[u32], table: &mut [u32]) -> T
 }
 
 // item_use (371): its loop.
-#[cycle(item_use_item_use_text_use_group_use_item_use_parts_use_path_use_paths)]
+#[cycle(uses)]
 fn use_parts(tape: Tape, kinds: &[u8], lens: &[u32], table: &mut [u32]) -> Tape
     requires { Ready tape kinds.now lens.now table.old }
     ensures { Ran use_parts tt tape result kinds.now lens.now table.old table.new }
@@ -242,7 +242,7 @@ fn use_parts(tape: Tape, kinds: &[u8], lens: &[u32], table: &mut [u32]) -> Tape
 }
 
 // item_use (371): the case of `{`.
-#[cycle(item_use_item_use_text_use_group_use_item_use_parts_use_path_use_paths)]
+#[cycle(uses)]
 fn use_group(tape: Tape, kinds: &[u8], lens: &[u32], table: &mut [u32]) -> Tape
     requires { Ready tape kinds.now lens.now table.old }
     ensures { Ran use_group tt tape result kinds.now lens.now table.old table.new }
@@ -268,7 +268,7 @@ fn use_group(tape: Tape, kinds: &[u8], lens: &[u32], table: &mut [u32]) -> Tape
 }
 
 // item_use (371): the loop in a group.
-#[cycle(item_use_item_use_text_use_group_use_item_use_parts_use_path_use_paths)]
+#[cycle(uses)]
 fn use_paths(tape: Tape, kinds: &[u8], lens: &[u32], table: &mut [u32]) -> Tape
     requires { Ready tape kinds.now lens.now table.old }
     ensures { Ran use_paths tt tape result kinds.now lens.now table.old table.new }
@@ -284,7 +284,7 @@ fn use_paths(tape: Tape, kinds: &[u8], lens: &[u32], table: &mut [u32]) -> Tape
 }
 
 // item_use (371): a turn of the loop in a group.
-#[cycle(item_use_item_use_text_use_group_use_item_use_parts_use_path_use_paths)]
+#[cycle(uses)]
 fn use_path(tape: Tape, kinds: &[u8], lens: &[u32], table: &mut [u32]) -> Tape
     requires { Ready tape kinds.now lens.now table.old }
     ensures { Ran use_path tt tape result kinds.now lens.now table.old table.new }
@@ -297,7 +297,7 @@ fn use_path(tape: Tape, kinds: &[u8], lens: &[u32], table: &mut [u32]) -> Tape
 }
 
 // item_use (371): it enters itself.
-#[cycle(item_use_item_use_text_use_group_use_item_use_parts_use_path_use_paths)]
+#[cycle(uses)]
 fn use_item(tape: Tape, kinds: &[u8], lens: &[u32], table: &mut [u32]) -> Tape
     requires { Ready tape kinds.now lens.now table.old }
     ensures { Ran use_item tt tape result kinds.now lens.now table.old table.new }

@@ -7,7 +7,7 @@ use kinds::*;
 use tape::Tape;
 
 // path (1220): counted.
-#[cycle(generic_path_generic_paths_generics_generics_all_path_path_segment_path_segments_path_text)]
+#[cycle(paths)]
 pub fn path(tape: Tape, kinds: &[u8], lens: &[u32], table: &mut [u32]) -> Tape
     requires { Ready tape kinds.now lens.now table.old }
     ensures { Ran path_prog tt tape result kinds.now lens.now table.old table.new }
@@ -24,7 +24,7 @@ pub fn path(tape: Tape, kinds: &[u8], lens: &[u32], table: &mut [u32]) -> Tape
 }
 
 // path (1220).
-#[cycle(generic_path_generic_paths_generics_generics_all_path_path_segment_path_segments_path_text)]
+#[cycle(paths)]
 fn path_text(tape: Tape, kinds: &[u8], lens: &[u32], table: &mut [u32]) -> Tape
     requires { Ready tape kinds.now lens.now table.old }
     ensures { Ran path_text tt tape result kinds.now lens.now table.old table.new }
@@ -42,7 +42,7 @@ fn path_text(tape: Tape, kinds: &[u8], lens: &[u32], table: &mut [u32]) -> Tape
 }
 
 // path (1220): its loop.
-#[cycle(generic_path_generic_paths_generics_generics_all_path_path_segment_path_segments_path_text)]
+#[cycle(paths)]
 fn path_segments(tape: Tape, kinds: &[u8], lens: &[u32], table: &mut [u32]) -> Tape
     requires { Ready tape kinds.now lens.now table.old }
     ensures { Ran path_segments tt tape result kinds.now lens.now table.old table.new }
@@ -58,7 +58,7 @@ fn path_segments(tape: Tape, kinds: &[u8], lens: &[u32], table: &mut [u32]) -> T
 }
 
 // path (1220): a turn of its loop.
-#[cycle(generic_path_generic_paths_generics_generics_all_path_path_segment_path_segments_path_text)]
+#[cycle(paths)]
 fn path_segment(tape: Tape, kinds: &[u8], lens: &[u32], table: &mut [u32]) -> Tape
     requires { Ready tape kinds.now lens.now table.old }
     ensures { Ran path_segment tt tape result kinds.now lens.now table.old table.new }
@@ -75,7 +75,7 @@ fn path_segment(tape: Tape, kinds: &[u8], lens: &[u32], table: &mut [u32]) -> Ta
 }
 
 // path (1220): the loop behind `::`.
-#[cycle(generic_path_generic_paths_generics_generics_all_path_path_segment_path_segments_path_text)]
+#[cycle(paths)]
 fn generics_all(tape: Tape, kinds: &[u8], lens: &[u32], table: &mut [u32]) -> Tape
     requires { Ready tape kinds.now lens.now table.old }
     ensures { Ran generics_all tt tape result kinds.now lens.now table.old table.new }
@@ -91,7 +91,7 @@ fn generics_all(tape: Tape, kinds: &[u8], lens: &[u32], table: &mut [u32]) -> Ta
 }
 
 // path (1220): a turn of that loop.
-#[cycle(generic_path_generic_paths_generics_generics_all_path_path_segment_path_segments_path_text)]
+#[cycle(paths)]
 fn generics(tape: Tape, kinds: &[u8], lens: &[u32], table: &mut [u32]) -> Tape
     requires { Ready tape kinds.now lens.now table.old }
     ensures { Ran generics_prog tt tape result kinds.now lens.now table.old table.new }
@@ -117,7 +117,7 @@ fn generics(tape: Tape, kinds: &[u8], lens: &[u32], table: &mut [u32]) -> Tape
 }
 
 // path (1220): the loop behind `<`.
-#[cycle(generic_path_generic_paths_generics_generics_all_path_path_segment_path_segments_path_text)]
+#[cycle(paths)]
 fn generic_paths(tape: Tape, kinds: &[u8], lens: &[u32], table: &mut [u32]) -> Tape
     requires { Ready tape kinds.now lens.now table.old }
     ensures { Ran generic_paths tt tape result kinds.now lens.now table.old table.new }
@@ -133,7 +133,7 @@ fn generic_paths(tape: Tape, kinds: &[u8], lens: &[u32], table: &mut [u32]) -> T
 }
 
 // path (1220): it enters itself.
-#[cycle(generic_path_generic_paths_generics_generics_all_path_path_segment_path_segments_path_text)]
+#[cycle(paths)]
 fn generic_path(tape: Tape, kinds: &[u8], lens: &[u32], table: &mut [u32]) -> Tape
     requires { Ready tape kinds.now lens.now table.old }
     ensures { Ran generic_path tt tape result kinds.now lens.now table.old table.new }

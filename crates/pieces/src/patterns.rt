@@ -8,7 +8,7 @@ use kinds::*;
 use tape::Tape;
 
 // pat (556): counted.
-#[cycle(pat_pat_anonymous_pat_group_pat_item_pat_items_pat_kind_pat_object_pat_object_items_pat_object_key_pat_or_rest_pat_parens_pat_path_pat_text_pat_value)]
+#[cycle(patterns)]
 pub fn pat(tape: Tape, kinds: &[u8], lens: &[u32], table: &mut [u32]) -> Tape
     requires { Ready tape kinds.now lens.now table.old }
     ensures { Ran pat_prog tt tape result kinds.now lens.now table.old table.new }
@@ -25,7 +25,7 @@ pub fn pat(tape: Tape, kinds: &[u8], lens: &[u32], table: &mut [u32]) -> Tape
 }
 
 // pat (556).
-#[cycle(pat_pat_anonymous_pat_group_pat_item_pat_items_pat_kind_pat_object_pat_object_items_pat_object_key_pat_or_rest_pat_parens_pat_path_pat_text_pat_value)]
+#[cycle(patterns)]
 fn pat_text(tape: Tape, kinds: &[u8], lens: &[u32], table: &mut [u32]) -> Tape
     requires { Ready tape kinds.now lens.now table.old }
     ensures { Ran pat_text tt tape result kinds.now lens.now table.old table.new }
@@ -49,7 +49,7 @@ fn pat_text(tape: Tape, kinds: &[u8], lens: &[u32], table: &mut [u32]) -> Tape
 }
 
 // pat (556): its `match`.
-#[cycle(pat_pat_anonymous_pat_group_pat_item_pat_items_pat_kind_pat_object_pat_object_items_pat_object_key_pat_or_rest_pat_parens_pat_path_pat_text_pat_value)]
+#[cycle(patterns)]
 fn pat_kind(tape: Tape, k: u8, g: u8, kinds: &[u8], lens: &[u32], table: &mut [u32]) -> Tape
     requires { Ready tape kinds.now lens.now table.old }
     ensures { Ran (pat_kind k g) tt tape result kinds.now lens.now table.old table.new }
@@ -100,7 +100,7 @@ fn pat_negative(tape: Tape, kinds: &[u8], lens: &[u32], table: &mut [u32]) -> Ta
 }
 
 // pat (556): the case of a path.
-#[cycle(pat_pat_anonymous_pat_group_pat_item_pat_items_pat_kind_pat_object_pat_object_items_pat_object_key_pat_or_rest_pat_parens_pat_path_pat_text_pat_value)]
+#[cycle(patterns)]
 fn pat_path(tape: Tape, kinds: &[u8], lens: &[u32], table: &mut [u32]) -> Tape
     requires { Ready tape kinds.now lens.now table.old }
     ensures { Ran pat_path tt tape result kinds.now lens.now table.old table.new }
@@ -133,7 +133,7 @@ fn pat_path(tape: Tape, kinds: &[u8], lens: &[u32], table: &mut [u32]) -> Tape
 }
 
 // pat (556): the cases of `[` and `(`.
-#[cycle(pat_pat_anonymous_pat_group_pat_item_pat_items_pat_kind_pat_object_pat_object_items_pat_object_key_pat_or_rest_pat_parens_pat_path_pat_text_pat_value)]
+#[cycle(patterns)]
 fn pat_group(tape: Tape, end: u8, kind: u8, kinds: &[u8], lens: &[u32], table: &mut [u32]) -> Tape
     requires { Ready tape kinds.now lens.now table.old }
     ensures { Ran (pat_group end kind) tt tape result kinds.now lens.now table.old table.new }
@@ -151,7 +151,7 @@ fn pat_group(tape: Tape, end: u8, kind: u8, kinds: &[u8], lens: &[u32], table: &
 }
 
 // pat (556): the case of `#{`.
-#[cycle(pat_pat_anonymous_pat_group_pat_item_pat_items_pat_kind_pat_object_pat_object_items_pat_object_key_pat_or_rest_pat_parens_pat_path_pat_text_pat_value)]
+#[cycle(patterns)]
 fn pat_anonymous(tape: Tape, kinds: &[u8], lens: &[u32], table: &mut [u32]) -> Tape
     requires { Ready tape kinds.now lens.now table.old }
     ensures { Ran pat_anonymous tt tape result kinds.now lens.now table.old table.new }
@@ -177,7 +177,7 @@ fn pat_anonymous(tape: Tape, kinds: &[u8], lens: &[u32], table: &mut [u32]) -> T
 }
 
 // pat_parens (1363).
-#[cycle(pat_pat_anonymous_pat_group_pat_item_pat_items_pat_kind_pat_object_pat_object_items_pat_object_key_pat_or_rest_pat_parens_pat_path_pat_text_pat_value)]
+#[cycle(patterns)]
 fn pat_parens(tape: Tape, end: u8, kinds: &[u8], lens: &[u32], table: &mut [u32]) -> Tape
     requires { Ready tape kinds.now lens.now table.old }
     ensures { Ran (pat_parens end) tt tape result kinds.now lens.now table.old table.new }
@@ -194,7 +194,7 @@ fn pat_parens(tape: Tape, end: u8, kinds: &[u8], lens: &[u32], table: &mut [u32]
 }
 
 // pat_parens (1363): its loop.
-#[cycle(pat_pat_anonymous_pat_group_pat_item_pat_items_pat_kind_pat_object_pat_object_items_pat_object_key_pat_or_rest_pat_parens_pat_path_pat_text_pat_value)]
+#[cycle(patterns)]
 fn pat_items(tape: Tape, kinds: &[u8], lens: &[u32], table: &mut [u32]) -> Tape
     requires { Ready tape kinds.now lens.now table.old }
     ensures { Ran pat_items tt tape result kinds.now lens.now table.old table.new }
@@ -210,7 +210,7 @@ fn pat_items(tape: Tape, kinds: &[u8], lens: &[u32], table: &mut [u32]) -> Tape
 }
 
 // pat_parens (1363): a turn of its loop.
-#[cycle(pat_pat_anonymous_pat_group_pat_item_pat_items_pat_kind_pat_object_pat_object_items_pat_object_key_pat_or_rest_pat_parens_pat_path_pat_text_pat_value)]
+#[cycle(patterns)]
 fn pat_item(tape: Tape, kinds: &[u8], lens: &[u32], table: &mut [u32]) -> Tape
     requires { Ready tape kinds.now lens.now table.old }
     ensures { Ran pat_item tt tape result kinds.now lens.now table.old table.new }
@@ -223,7 +223,7 @@ fn pat_item(tape: Tape, kinds: &[u8], lens: &[u32], table: &mut [u32]) -> Tape
 }
 
 // pat_parens (1363): its `match`.
-#[cycle(pat_pat_anonymous_pat_group_pat_item_pat_items_pat_kind_pat_object_pat_object_items_pat_object_key_pat_or_rest_pat_parens_pat_path_pat_text_pat_value)]
+#[cycle(patterns)]
 fn pat_or_rest(tape: Tape, kinds: &[u8], lens: &[u32], table: &mut [u32]) -> Tape
     requires { Ready tape kinds.now lens.now table.old }
     ensures { Ran pat_or_rest tt tape result kinds.now lens.now table.old table.new }
@@ -235,7 +235,7 @@ fn pat_or_rest(tape: Tape, kinds: &[u8], lens: &[u32], table: &mut [u32]) -> Tap
 }
 
 // pat_object (1043).
-#[cycle(pat_pat_anonymous_pat_group_pat_item_pat_items_pat_kind_pat_object_pat_object_items_pat_object_key_pat_or_rest_pat_parens_pat_path_pat_text_pat_value)]
+#[cycle(patterns)]
 fn pat_object(tape: Tape, kinds: &[u8], lens: &[u32], table: &mut [u32]) -> Tape
     requires { Ready tape kinds.now lens.now table.old }
     ensures { Ran pat_object tt tape result kinds.now lens.now table.old table.new }
@@ -252,7 +252,7 @@ fn pat_object(tape: Tape, kinds: &[u8], lens: &[u32], table: &mut [u32]) -> Tape
 }
 
 // pat_object (1043): its loop.
-#[cycle(pat_pat_anonymous_pat_group_pat_item_pat_items_pat_kind_pat_object_pat_object_items_pat_object_key_pat_or_rest_pat_parens_pat_path_pat_text_pat_value)]
+#[cycle(patterns)]
 fn pat_object_items(tape: Tape, kinds: &[u8], lens: &[u32], table: &mut [u32]) -> Tape
     requires { Ready tape kinds.now lens.now table.old }
     ensures { Ran pat_object_items tt tape result kinds.now lens.now table.old table.new }
@@ -279,7 +279,7 @@ fn pat_object_items(tape: Tape, kinds: &[u8], lens: &[u32], table: &mut [u32]) -
 }
 
 // pat_object (1043): the case of a key.
-#[cycle(pat_pat_anonymous_pat_group_pat_item_pat_items_pat_kind_pat_object_pat_object_items_pat_object_key_pat_or_rest_pat_parens_pat_path_pat_text_pat_value)]
+#[cycle(patterns)]
 fn pat_object_key(tape: Tape, kinds: &[u8], lens: &[u32], table: &mut [u32]) -> Tape
     requires { Ready tape kinds.now lens.now table.old }
     ensures { Ran pat_object_key tt tape result kinds.now lens.now table.old table.new }
@@ -296,7 +296,7 @@ fn pat_object_key(tape: Tape, kinds: &[u8], lens: &[u32], table: &mut [u32]) -> 
 }
 
 // pat_object (1043): `:` and its pattern.
-#[cycle(pat_pat_anonymous_pat_group_pat_item_pat_items_pat_kind_pat_object_pat_object_items_pat_object_key_pat_or_rest_pat_parens_pat_path_pat_text_pat_value)]
+#[cycle(patterns)]
 fn pat_value(tape: Tape, kinds: &[u8], lens: &[u32], table: &mut [u32]) -> Tape
     requires { Ready tape kinds.now lens.now table.old }
     ensures { Ran pat_value tt tape result kinds.now lens.now table.old table.new }

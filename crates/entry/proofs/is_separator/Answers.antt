@@ -1,0 +1,14 @@
+-- `entry::is_separator` meets its contract: above 127 no kind is a token's, and below the two classes decide.
+-- Assumes nothing.
+use mathlib.Core.Path.{sym}
+use borrow.Author.Rules.{rules}
+use Rattle.definition.specs.Parse.{is_entry}
+use Rattle.entry.specs.Input.{no_separator}
+use Rattle.entry.proofs.is_separator.Goals as goal
+
+pub returns-then-separator-gt127 : goal.returns-then-separator-gt127
+returns-then-separator-gt127 c = sym (no_separator c.args.separator c.if-separator-gt127.true)
+
+pub returns : goal.returns
+unfolding is_entry
+returns c = rw (c.is_token.ensures, c.is_trivia.ensures)

@@ -1,0 +1,15 @@
+-- `entry::zero_from` meets its contract. The loop's invariant: the elements from `from` to `i` are 0, and the others as they were. The measure is what is
+-- left of the table.
+-- Assumes nothing.
+use Prim.Native.Nat.{◌-◌}
+use native.Mathlib.Omega.{arith}
+use lib.ListN.{length}
+use borrow.Author.Rules.{rules}
+use Rattle.entry.specs.Table.{Zeroing, zeroing_start, zeroing_go, zeroing_end}
+use Rattle.entry.proofs.zero_from.Given as goal
+
+abbrev pub invariant-loop-i : goal.invariant-loop-i
+invariant-loop-i l = Zeroing l.initial.table l.from l.table l.i
+
+abbrev pub decreases-loop-i : goal.decreases-loop-i
+decreases-loop-i l = length l.initial.table - l.i

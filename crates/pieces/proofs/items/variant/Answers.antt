@@ -1,0 +1,46 @@
+-- Written by tools/walk.py from the code and its program; docs/CONTRIBUTING.md says how.
+-- Assumes nothing.
+use Prim.Native.Nat.{zero, suc, ◌+◌, ◌-◌, ◌*◌, ◌≤◌, ◌<◌}
+use mathlib.Core.Path.{◌≡◌, refl, sym, ap, ◌∙◌}
+use mathlib.Core.Bool.{Bool, true, false}
+use mathlib.Core.Logic.{inl, inr}
+use native.Mathlib.Omega.{arith}
+use borrow.Author.Rules.{rules}
+use borrow.Author.Tests.{eq-eqb, ne_eqb}
+use Rattle.definition.specs.Classes.{is_path_component, kind_is_pat, is_pat_or_rest, is_use_part, is_select_arm}
+use Rattle.definition.specs.Modes.{Brace, Range}
+use Rattle.definition.specs.Prog.{mark, repeat}
+use Rattle.definition.specs.Grammar.{variant}
+use Rattle.laws.specs.Progress.{path_component_some, use_path_some, object_key_some, glues_some, recovering_some}
+use Rattle.kinds.specs.Laws.{not_eof as none_eof, at_eof}
+use Rattle.tape.specs.View.{Step, Ran, said}
+use Rattle.tape.specs.Steps.{Loop, Onward, fuel, burns, here_few, marked_now, step_marked, held, held_now, followed, follows_len, not_key, both, cut, refusal, ends, if_yes, if_no, look, touch, spot, ask, ask_glued, ask_second, ask_second_as, scoped, unscoped, nothing, answered, answered_as, says, kept, refuses, refused_tape, inv_start, inv_again, inv_end, last, last_cut}
+use Rattle.tape.specs.Counted.{deep, entered, entered_bool, barred, goes_on, goes_some, goes_saw, goes_glued, and_on}
+use borrow.Author.Rules.{rules}
+use Rattle.pieces.proofs.items.variant.Goals as goal
+
+pub variant_item-t-requires : goal.variant_item-t-requires
+variant_item-t-requires c =
+    c.requires
+
+pub shape_of-table-then-t-ne0 : goal.shape_of-table-then-t-ne0
+shape_of-table-then-t-ne0 c =
+    (c.variant_item-t.ensures.under 0).len
+
+pub returns-then-t-ne0 : goal.returns-then-t-ne0
+unfolding variant
+returns-then-t-ne0 c =
+    record { under = λ m. cut (c.variant_item-t.ensures.under _) c.if-t-ne0.true }
+
+pub bump_while-requires : goal.bump_while-requires
+bump_while-requires c =
+    (omega arith, (c.variant_item-t.ensures.under 0).ready c.if-t-ne0.false)
+
+pub shape_of-table : goal.shape_of-table
+shape_of-table c =
+    (c.bump_while.ensures.under 0).len ∙ (c.variant_item-t.ensures.under 0).len
+
+pub returns : goal.returns
+unfolding variant
+returns c =
+    record { under = λ m. both (c.variant_item-t.ensures.under _) c.if-t-ne0.false (ends (c.bump_while.ensures.under _)) }
