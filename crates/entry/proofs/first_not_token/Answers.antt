@@ -20,7 +20,7 @@ bounds-kinds-at c = omega arith
 
 pub returns-then-not-is_token : goal.returns-then-not-is_token
 returns-then-not-is_token c =
-    sym (not_stop is_token c.args.kinds.now c.loop-at.at (omega arith) (sym c.is_token.ensures ∙ not-true _ c.if-not-is_token.true)) ∙ c.loop-at.invariant
+    sym (not_stop is_token c.args.kinds.now c.loop-at.at (omega arith) (sym c.is_token.ensures ∙ c.if-not-is_token.true)) ∙ c.loop-at.invariant
 
 pub overflow_add-at : goal.overflow_add-at
 overflow_add-at c = omega arith
@@ -30,7 +30,7 @@ loop-at-smaller c = omega arith
 
 pub loop-at-preserved : goal.loop-at-preserved
 loop-at-preserved c =
-    not_go is_token c.args.kinds.now c.loop-at.at (omega arith) (sym c.is_token.ensures ∙ not-false _ c.if-not-is_token.false) ∙ c.loop-at.invariant
+    not_go is_token c.args.kinds.now c.loop-at.at (omega arith) (sym c.is_token.ensures ∙ c.if-not-is_token.false) ∙ c.loop-at.invariant
 
 pub returns : goal.returns
 returns c = sym (not_end is_token c.args.kinds.now c.loop-at.at (omega arith)) ∙ c.loop-at.invariant
