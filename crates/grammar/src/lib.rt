@@ -43,6 +43,7 @@ use tape::Tape;
 // ---- Statements
 
 // stmt (116): counted.
+#[cycle(grammar)]
 pub fn st(tape: Tape, kinds: &[u8], lens: &[u32], table: &mut [u32]) -> Tape
     requires { Ready tape kinds.now lens.now table.old }
     ensures { Ran stmt tt tape result kinds.now lens.now table.old table.new }
@@ -59,6 +60,7 @@ pub fn st(tape: Tape, kinds: &[u8], lens: &[u32], table: &mut [u32]) -> Tape
 }
 
 // stmt (116), and refusal 9 for one that takes no token.
+#[cycle(grammar)]
 fn s(tape: Tape, kinds: &[u8], lens: &[u32], table: &mut [u32]) -> Tape
     requires { Ready tape kinds.now lens.now table.old }
     ensures { Ran stmt_once tt tape result kinds.now lens.now table.old table.new }
@@ -76,6 +78,7 @@ fn s(tape: Tape, kinds: &[u8], lens: &[u32], table: &mut [u32]) -> Tape
 }
 
 // stmt (116).
+#[cycle(grammar)]
 fn sb(tape: Tape, kinds: &[u8], lens: &[u32], table: &mut [u32]) -> Tape
     requires { Ready tape kinds.now lens.now table.old }
     ensures { Ran stmt_text tt tape result kinds.now lens.now table.old table.new }
@@ -92,6 +95,7 @@ fn sb(tape: Tape, kinds: &[u8], lens: &[u32], table: &mut [u32]) -> Tape
 }
 
 // stmt (116): from its mark c on.
+#[cycle(grammar)]
 fn so(tape: Tape, kinds: &[u8], lens: &[u32], table: &mut [u32]) -> Tape
     requires { Ready tape kinds.now lens.now table.old }
     ensures { Ran stmt_outer tt tape result kinds.now lens.now table.old table.new }
@@ -114,6 +118,7 @@ fn so(tape: Tape, kinds: &[u8], lens: &[u32], table: &mut [u32]) -> Tape
 }
 
 // stmt (116): from its mark inner_c on.
+#[cycle(grammar)]
 fn si(tape: Tape, kinds: &[u8], lens: &[u32], table: &mut [u32]) -> Tape
     requires { Ready tape kinds.now lens.now table.old }
     ensures { Ran stmt_inner result.ans tape result kinds.now lens.now table.old table.new }
@@ -133,6 +138,7 @@ fn si(tape: Tape, kinds: &[u8], lens: &[u32], table: &mut [u32]) -> Tape
 }
 
 // stmt (116): its `match`. c is stmt's inner_c.
+#[cycle(grammar)]
 fn sk(
     tape: Tape,
     c: usize,
@@ -186,6 +192,7 @@ fn sk(
 }
 
 // stmt (116): the case of `mod`.
+#[cycle(grammar)]
 fn sm(tape: Tape, c: usize, kinds: &[u8], lens: &[u32], table: &mut [u32]) -> Tape
     requires { Marked c tape table.old × Ready tape kinds.now lens.now table.old }
     ensures { Step c (stmt_mod (marking c)) result.ans tape result kinds.now lens.now table.old table.new }
@@ -201,6 +208,7 @@ fn sm(tape: Tape, c: usize, kinds: &[u8], lens: &[u32], table: &mut [u32]) -> Ta
 }
 
 // stmt (116): the last case, an expression.
+#[cycle(grammar)]
 fn sv(tape: Tape, kinds: &[u8], lens: &[u32], table: &mut [u32]) -> Tape
     requires { Ready tape kinds.now lens.now table.old }
     ensures { Ran stmt_expr result.ans tape result kinds.now lens.now table.old table.new }
@@ -230,6 +238,7 @@ fn sv(tape: Tape, kinds: &[u8], lens: &[u32], table: &mut [u32]) -> Tape
 }
 
 // item_const (226).
+#[cycle(grammar)]
 fn h(tape: Tape, kinds: &[u8], lens: &[u32], table: &mut [u32]) -> Tape
     requires { Ready tape kinds.now lens.now table.old }
     ensures { Ran item_const tt tape result kinds.now lens.now table.old table.new }
@@ -246,6 +255,7 @@ fn h(tape: Tape, kinds: &[u8], lens: &[u32], table: &mut [u32]) -> Tape
 }
 
 // local (339).
+#[cycle(grammar)]
 fn l(tape: Tape, cx: ExprCx, kinds: &[u8], lens: &[u32], table: &mut [u32]) -> Tape
     requires { Ready tape kinds.now lens.now table.old }
     ensures { Ran (local (cx_of cx)) tt tape result kinds.now lens.now table.old table.new }
@@ -277,6 +287,7 @@ fn l(tape: Tape, cx: ExprCx, kinds: &[u8], lens: &[u32], table: &mut [u32]) -> T
 // ---- Items that hold statements
 
 // item_fn (484); its arguments are in `pieces`.
+#[cycle(grammar)]
 fn it(tape: Tape, kinds: &[u8], lens: &[u32], table: &mut [u32]) -> Tape
     requires { Ready tape kinds.now lens.now table.old }
     ensures { Ran item_fn tt tape result kinds.now lens.now table.old table.new }
@@ -300,6 +311,7 @@ fn it(tape: Tape, kinds: &[u8], lens: &[u32], table: &mut [u32]) -> Tape
 }
 
 // item_impl (514).
+#[cycle(grammar)]
 fn i(tape: Tape, kinds: &[u8], lens: &[u32], table: &mut [u32]) -> Tape
     requires { Ready tape kinds.now lens.now table.old }
     ensures { Ran item_impl tt tape result kinds.now lens.now table.old table.new }
@@ -316,6 +328,7 @@ fn i(tape: Tape, kinds: &[u8], lens: &[u32], table: &mut [u32]) -> Tape
 }
 
 // item_mod (526): answers whether it has a block.
+#[cycle(grammar)]
 fn im(tape: Tape, kinds: &[u8], lens: &[u32], table: &mut [u32]) -> Tape
     requires { Ready tape kinds.now lens.now table.old }
     ensures { Ran item_mod (said result) tape result kinds.now lens.now table.old table.new }
@@ -341,6 +354,7 @@ fn im(tape: Tape, kinds: &[u8], lens: &[u32], table: &mut [u32]) -> Tape
 // ---- Expressions
 
 // expr (663): expr_with in its first modes.
+#[cycle(grammar)]
 pub fn p(tape: Tape, kinds: &[u8], lens: &[u32], table: &mut [u32]) -> Tape
     requires { Ready tape kinds.now lens.now table.old }
     ensures { Ran expr_prog tt tape result kinds.now lens.now table.old table.new }
@@ -358,6 +372,7 @@ pub fn p(tape: Tape, kinds: &[u8], lens: &[u32], table: &mut [u32]) -> Tape
 }
 
 // expr_with (675).
+#[cycle(grammar)]
 pub fn ex(
     tape: Tape,
     brace: Brace,
@@ -396,6 +411,7 @@ pub fn ex(
 }
 
 // outer_expr_with (703): counted.
+#[cycle(grammar)]
 fn ou(
     tape: Tape,
     brace: Brace,
@@ -421,6 +437,7 @@ fn ou(
 }
 
 // outer_expr_with (703): from its mark c on.
+#[cycle(grammar)]
 fn ob(
     tape: Tape,
     brace: Brace,
@@ -451,6 +468,7 @@ fn ob(
 }
 
 // outer_expr_with (703): behind the first operand. c is its mark, here and below.
+#[cycle(grammar)]
 fn oc(
     tape: Tape,
     c: usize,
@@ -478,6 +496,7 @@ fn oc(
 }
 
 // outer_expr_with (703): behind `=`.
+#[cycle(grammar)]
 fn o(
     tape: Tape,
     c: usize,
@@ -503,6 +522,7 @@ fn o(
 }
 
 // outer_expr_with (703): operators, then a range.
+#[cycle(grammar)]
 fn ot(
     tape: Tape,
     c: usize,
@@ -530,6 +550,7 @@ fn ot(
 }
 
 // outer_expr_with (703): operators, if they are looked for.
+#[cycle(grammar)]
 fn oo(
     tape: Tape,
     c: usize,
@@ -553,6 +574,7 @@ fn oo(
 }
 
 // outer_expr_with (703): operators.
+#[cycle(grammar)]
 fn on(
     tape: Tape,
     c: usize,
@@ -583,6 +605,7 @@ fn on(
 // ---- What an expression begins with
 
 // expr_primary (756): its `match`, as far as `TemplateString`. c is its mark, here and below.
+#[cycle(grammar)]
 fn pr(
     tape: Tape,
     brace: Brace,
@@ -635,6 +658,7 @@ fn pr(
 }
 
 // expr_primary (756): its `match` from `||` on: closures, a negative number, unary operators.
+#[cycle(grammar)]
 fn pu(
     tape: Tape,
     c: usize,
@@ -686,6 +710,7 @@ fn pu(
 }
 
 // expr_primary (756): its `match` from `if` on: the words.
+#[cycle(grammar)]
 fn pw(
     tape: Tape,
     c: usize,
@@ -767,6 +792,7 @@ fn pw(
 }
 
 // expr_primary (756): its `match` from `..` on.
+#[cycle(grammar)]
 fn pl(
     tape: Tape,
     c: usize,
@@ -815,6 +841,7 @@ fn pl(
 }
 
 // expr_primary (756): the case of a path.
+#[cycle(grammar)]
 fn pp(tape: Tape, c: usize, brace: Brace, kinds: &[u8], lens: &[u32], table: &mut [u32]) -> Tape
     requires { Marked c tape table.old × Ready tape kinds.now lens.now table.old }
     ensures { Step c (primary_path (marking c) (brace_of brace)) result.ans tape result kinds.now lens.now table.old table.new }
@@ -840,6 +867,7 @@ fn pp(tape: Tape, c: usize, brace: Brace, kinds: &[u8], lens: &[u32], table: &mu
 }
 
 // expr_primary (756): what stands between the bars of a closure.
+#[cycle(grammar)]
 fn ca(tape: Tape, kinds: &[u8], lens: &[u32], table: &mut [u32]) -> Tape
     requires { Ready tape kinds.now lens.now table.old }
     ensures { Ran closure_arguments tt tape result kinds.now lens.now table.old table.new }
@@ -857,6 +885,7 @@ fn ca(tape: Tape, kinds: &[u8], lens: &[u32], table: &mut [u32]) -> Tape
 }
 
 // expr_primary (756): the case of `..`.
+#[cycle(grammar)]
 fn r(tape: Tape, c: usize, brace: Brace, kinds: &[u8], lens: &[u32], table: &mut [u32]) -> Tape
     requires { Marked c tape table.old × Ready tape kinds.now lens.now table.old }
     ensures { Step c (range_to (marking c) (brace_of brace)) result.ans tape result kinds.now lens.now table.old table.new }
@@ -884,6 +913,7 @@ fn r(tape: Tape, c: usize, brace: Brace, kinds: &[u8], lens: &[u32], table: &mut
 // ---- Links: calls, fields, indices
 
 // expr_chain (934), with outer_expr_with's mark c.
+#[cycle(grammar)]
 fn ch(tape: Tape, c: usize, kind: u8, kinds: &[u8], lens: &[u32], table: &mut [u32]) -> Tape
     requires { Marked c tape table.old × Ready tape kinds.now lens.now table.old }
     ensures { Step c (expr_chain (marking c) kind) result.ans tape result kinds.now lens.now table.old table.new }
@@ -916,6 +946,7 @@ fn ch(tape: Tape, c: usize, kind: u8, kinds: &[u8], lens: &[u32], table: &mut [u
 }
 
 // expr_chain (934): a turn of its loop; answers the kind of the link, or 0.
+#[cycle(grammar)]
 fn d(tape: Tape, kind: u8, kinds: &[u8], lens: &[u32], table: &mut [u32]) -> Tape
     requires { Ready tape kinds.now lens.now table.old }
     ensures { Ran (chain_step kind) result.ans tape result kinds.now lens.now table.old table.new }
@@ -938,6 +969,7 @@ fn d(tape: Tape, kind: u8, kinds: &[u8], lens: &[u32], table: &mut [u32]) -> Tap
 }
 
 // expr_chain (934): its `match`.
+#[cycle(grammar)]
 fn li(tape: Tape, kind: u8, k: u8, kinds: &[u8], lens: &[u32], table: &mut [u32]) -> Tape
     requires { Ready tape kinds.now lens.now table.old }
     ensures { Ran (chain_link kind k) result.ans tape result kinds.now lens.now table.old table.new }
@@ -985,6 +1017,7 @@ fn li(tape: Tape, kind: u8, k: u8, kinds: &[u8], lens: &[u32], table: &mut [u32]
 // ---- Groups and objects
 
 // empty_group (998).
+#[cycle(grammar)]
 fn eg(tape: Tape, kinds: &[u8], lens: &[u32], table: &mut [u32]) -> Tape
     requires { Ready tape kinds.now lens.now table.old }
     ensures { Ran empty_group result.ans tape result kinds.now lens.now table.old table.new }
@@ -1006,6 +1039,7 @@ fn eg(tape: Tape, kinds: &[u8], lens: &[u32], table: &mut [u32]) -> Tape
 }
 
 // expr_tuple_or_group (1006).
+#[cycle(grammar)]
 fn tg(tape: Tape, kinds: &[u8], lens: &[u32], table: &mut [u32]) -> Tape
     requires { Ready tape kinds.now lens.now table.old }
     ensures { Ran expr_tuple_or_group result.ans tape result kinds.now lens.now table.old table.new }
@@ -1032,6 +1066,7 @@ fn tg(tape: Tape, kinds: &[u8], lens: &[u32], table: &mut [u32]) -> Tape
 }
 
 // expr_tuple_or_group (1006): its loop; answers whether a comma was there.
+#[cycle(grammar)]
 fn u(tape: Tape, kinds: &[u8], lens: &[u32], table: &mut [u32]) -> Tape
     requires { Ready tape kinds.now lens.now table.old }
     ensures { Ran tuple_items (said result) tape result kinds.now lens.now table.old table.new }
@@ -1053,6 +1088,7 @@ fn u(tape: Tape, kinds: &[u8], lens: &[u32], table: &mut [u32]) -> Tape
 }
 
 // expr_object (1025).
+#[cycle(grammar)]
 fn oj(tape: Tape, kinds: &[u8], lens: &[u32], table: &mut [u32]) -> Tape
     requires { Ready tape kinds.now lens.now table.old }
     ensures { Ran expr_object tt tape result kinds.now lens.now table.old table.new }
@@ -1069,6 +1105,7 @@ fn oj(tape: Tape, kinds: &[u8], lens: &[u32], table: &mut [u32]) -> Tape
 }
 
 // expr_object (1025): its loop.
+#[cycle(grammar)]
 fn of(tape: Tape, kinds: &[u8], lens: &[u32], table: &mut [u32]) -> Tape
     requires { Ready tape kinds.now lens.now table.old }
     ensures { Ran object_fields tt tape result kinds.now lens.now table.old table.new }
@@ -1092,6 +1129,7 @@ fn of(tape: Tape, kinds: &[u8], lens: &[u32], table: &mut [u32]) -> Tape
 }
 
 // An expression behind a token that may be there.
+#[cycle(grammar)]
 fn e(tape: Tape, k: u8, kinds: &[u8], lens: &[u32], table: &mut [u32]) -> Tape
     requires { Ready tape kinds.now lens.now table.old }
     ensures { Ran (expr_after k) tt tape result kinds.now lens.now table.old table.new }
@@ -1109,6 +1147,7 @@ fn e(tape: Tape, k: u8, kinds: &[u8], lens: &[u32], table: &mut [u32]) -> Tape
 // ---- Control flow
 
 // expr_if (1071).
+#[cycle(grammar)]
 fn ei(tape: Tape, kinds: &[u8], lens: &[u32], table: &mut [u32]) -> Tape
     requires { Ready tape kinds.now lens.now table.old }
     ensures { Ran expr_if tt tape result kinds.now lens.now table.old table.new }
@@ -1129,6 +1168,7 @@ fn ei(tape: Tape, kinds: &[u8], lens: &[u32], table: &mut [u32]) -> Tape
 }
 
 // expr_if (1071): its loop.
+#[cycle(grammar)]
 fn en(tape: Tape, kinds: &[u8], lens: &[u32], table: &mut [u32]) -> Tape
     requires { Ready tape kinds.now lens.now table.old }
     ensures { Ran else_branches tt tape result kinds.now lens.now table.old table.new }
@@ -1144,6 +1184,7 @@ fn en(tape: Tape, kinds: &[u8], lens: &[u32], table: &mut [u32]) -> Tape
 }
 
 // expr_if (1071): a turn of its loop.
+#[cycle(grammar)]
 fn eb(tape: Tape, kinds: &[u8], lens: &[u32], table: &mut [u32]) -> Tape
     requires { Ready tape kinds.now lens.now table.old }
     ensures { Ran else_branch tt tape result kinds.now lens.now table.old table.new }
@@ -1173,6 +1214,7 @@ fn eb(tape: Tape, kinds: &[u8], lens: &[u32], table: &mut [u32]) -> Tape
 }
 
 // expr_if (1071): `if` and its condition; answers whether they are there.
+#[cycle(grammar)]
 fn el(tape: Tape, kinds: &[u8], lens: &[u32], table: &mut [u32]) -> Tape
     requires { Ready tape kinds.now lens.now table.old }
     ensures { Ran else_if (said result) tape result kinds.now lens.now table.old table.new }
@@ -1192,6 +1234,7 @@ fn el(tape: Tape, kinds: &[u8], lens: &[u32], table: &mut [u32]) -> Tape
 }
 
 // expr_while (1100).
+#[cycle(grammar)]
 fn w(tape: Tape, kinds: &[u8], lens: &[u32], table: &mut [u32]) -> Tape
     requires { Ready tape kinds.now lens.now table.old }
     ensures { Ran expr_while tt tape result kinds.now lens.now table.old table.new }
@@ -1208,6 +1251,7 @@ fn w(tape: Tape, kinds: &[u8], lens: &[u32], table: &mut [u32]) -> Tape
 }
 
 // expr_loop (1108).
+#[cycle(grammar)]
 fn lp(tape: Tape, kinds: &[u8], lens: &[u32], table: &mut [u32]) -> Tape
     requires { Ready tape kinds.now lens.now table.old }
     ensures { Ran expr_loop tt tape result kinds.now lens.now table.old table.new }
@@ -1220,6 +1264,7 @@ fn lp(tape: Tape, kinds: &[u8], lens: &[u32], table: &mut [u32]) -> Tape
 }
 
 // expr_for (1115).
+#[cycle(grammar)]
 fn fo(tape: Tape, kinds: &[u8], lens: &[u32], table: &mut [u32]) -> Tape
     requires { Ready tape kinds.now lens.now table.old }
     ensures { Ran expr_for tt tape result kinds.now lens.now table.old table.new }
@@ -1240,6 +1285,7 @@ fn fo(tape: Tape, kinds: &[u8], lens: &[u32], table: &mut [u32]) -> Tape
 }
 
 // expr_for (1115): `in` and its expression.
+#[cycle(grammar)]
 fn f(tape: Tape, kinds: &[u8], lens: &[u32], table: &mut [u32]) -> Tape
     requires { Ready tape kinds.now lens.now table.old }
     ensures { Ran for_in tt tape result kinds.now lens.now table.old table.new }
@@ -1264,6 +1310,7 @@ fn f(tape: Tape, kinds: &[u8], lens: &[u32], table: &mut [u32]) -> Tape
 }
 
 // expr_match (1129).
+#[cycle(grammar)]
 fn ma(tape: Tape, kinds: &[u8], lens: &[u32], table: &mut [u32]) -> Tape
     requires { Ready tape kinds.now lens.now table.old }
     ensures { Ran expr_match tt tape result kinds.now lens.now table.old table.new }
@@ -1300,6 +1347,7 @@ fn ma(tape: Tape, kinds: &[u8], lens: &[u32], table: &mut [u32]) -> Tape
 }
 
 // expr_match (1129): its loop.
+#[cycle(grammar)]
 fn ml(tape: Tape, kinds: &[u8], lens: &[u32], table: &mut [u32]) -> Tape
     requires { Ready tape kinds.now lens.now table.old }
     ensures { Ran match_list tt tape result kinds.now lens.now table.old table.new }
@@ -1319,6 +1367,7 @@ fn ml(tape: Tape, kinds: &[u8], lens: &[u32], table: &mut [u32]) -> Tape
 }
 
 // expr_match (1129): an arm.
+#[cycle(grammar)]
 fn mc(tape: Tape, kinds: &[u8], lens: &[u32], table: &mut [u32]) -> Tape
     requires { Ready tape kinds.now lens.now table.old }
     ensures { Ran match_case tt tape result kinds.now lens.now table.old table.new }
@@ -1344,6 +1393,7 @@ fn mc(tape: Tape, kinds: &[u8], lens: &[u32], table: &mut [u32]) -> Tape
 }
 
 // expr_select (1161).
+#[cycle(grammar)]
 fn se(tape: Tape, kinds: &[u8], lens: &[u32], table: &mut [u32]) -> Tape
     requires { Ready tape kinds.now lens.now table.old }
     ensures { Ran expr_select tt tape result kinds.now lens.now table.old table.new }
@@ -1367,6 +1417,7 @@ fn se(tape: Tape, kinds: &[u8], lens: &[u32], table: &mut [u32]) -> Tape
 }
 
 // expr_select (1161): its loop.
+#[cycle(grammar)]
 fn sl(tape: Tape, kinds: &[u8], lens: &[u32], table: &mut [u32]) -> Tape
     requires { Ready tape kinds.now lens.now table.old }
     ensures { Ran select_list tt tape result kinds.now lens.now table.old table.new }
@@ -1386,6 +1437,7 @@ fn sl(tape: Tape, kinds: &[u8], lens: &[u32], table: &mut [u32]) -> Tape
 }
 
 // expr_select (1161): an arm.
+#[cycle(grammar)]
 fn sc(tape: Tape, kinds: &[u8], lens: &[u32], table: &mut [u32]) -> Tape
     requires { Ready tape kinds.now lens.now table.old }
     ensures { Ran select_case tt tape result kinds.now lens.now table.old table.new }
@@ -1407,6 +1459,7 @@ fn sc(tape: Tape, kinds: &[u8], lens: &[u32], table: &mut [u32]) -> Tape
 }
 
 // expr_select (1161): its inner `match`.
+#[cycle(grammar)]
 fn sp(tape: Tape, kinds: &[u8], lens: &[u32], table: &mut [u32]) -> Tape
     requires { Ready tape kinds.now lens.now table.old }
     ensures { Ran select_pat tt tape result kinds.now lens.now table.old table.new }
@@ -1422,6 +1475,7 @@ fn sp(tape: Tape, kinds: &[u8], lens: &[u32], table: &mut [u32]) -> Tape
 }
 
 // condition (1198).
+#[cycle(grammar)]
 fn co(tape: Tape, kinds: &[u8], lens: &[u32], table: &mut [u32]) -> Tape
     requires { Ready tape kinds.now lens.now table.old }
     ensures { Ran condition tt tape result kinds.now lens.now table.old table.new }
@@ -1442,6 +1496,7 @@ fn co(tape: Tape, kinds: &[u8], lens: &[u32], table: &mut [u32]) -> Tape
 }
 
 // condition (1198): behind `let`.
+#[cycle(grammar)]
 fn cd(tape: Tape, kinds: &[u8], lens: &[u32], table: &mut [u32]) -> Tape
     requires { Ready tape kinds.now lens.now table.old }
     ensures { Ran condition_let tt tape result kinds.now lens.now table.old table.new }
@@ -1467,6 +1522,7 @@ fn cd(tape: Tape, kinds: &[u8], lens: &[u32], table: &mut [u32]) -> Tape
 }
 
 // condition (1198): `=` and its expression.
+#[cycle(grammar)]
 fn ci(tape: Tape, kinds: &[u8], lens: &[u32], table: &mut [u32]) -> Tape
     requires { Ready tape kinds.now lens.now table.old }
     ensures { Ran condition_init tt tape result kinds.now lens.now table.old table.new }
@@ -1491,6 +1547,7 @@ fn ci(tape: Tape, kinds: &[u8], lens: &[u32], table: &mut [u32]) -> Tape
 }
 
 // The expression behind `break`, `return` and `yield`, if there is one.
+#[cycle(grammar)]
 fn a(tape: Tape, brace: Brace, range: Range, kinds: &[u8], lens: &[u32], table: &mut [u32]) -> Tape
     requires { Ready tape kinds.now lens.now table.old }
     ensures { Ran (expr_if_any (brace_of brace) (range_of range)) tt tape result kinds.now lens.now table.old table.new }
@@ -1513,6 +1570,7 @@ fn a(tape: Tape, brace: Brace, range: Range, kinds: &[u8], lens: &[u32], table: 
 // ---- Operators and ranges
 
 // expr_binary (1252): counted.
+#[cycle(grammar)]
 fn bi(
     tape: Tape,
     op: Op,
@@ -1538,6 +1596,7 @@ fn bi(
 }
 
 // expr_binary (1252): its loop.
+#[cycle(grammar)]
 fn b(
     tape: Tape,
     op: Op,
@@ -1576,6 +1635,7 @@ fn b(
 }
 
 // expr_binary (1252): an operand, and what binds tighter behind it.
+#[cycle(grammar)]
 fn rd(
     tape: Tape,
     op: Op,
@@ -1619,6 +1679,7 @@ fn rd(
 }
 
 // expr_binary (1252): it enters itself. c is the operand's mark.
+#[cycle(grammar)]
 fn n(
     tape: Tape,
     c: usize,
@@ -1644,6 +1705,7 @@ fn n(
 }
 
 // expr_range (1306), with outer_expr_with's mark c.
+#[cycle(grammar)]
 fn er(
     tape: Tape,
     c: usize,
@@ -1687,6 +1749,7 @@ fn er(
 }
 
 // expr_range (1306): what follows `..` and `..=`.
+#[cycle(grammar)]
 fn rr(
     tape: Tape,
     c: usize,
@@ -1723,6 +1786,7 @@ fn rr(
 // ---- Blocks and lists
 
 // block (1339).
+#[cycle(grammar)]
 fn bl(tape: Tape, kinds: &[u8], lens: &[u32], table: &mut [u32]) -> Tape
     requires { Ready tape kinds.now lens.now table.old }
     ensures { Ran block tt tape result kinds.now lens.now table.old table.new }
@@ -1740,6 +1804,7 @@ fn bl(tape: Tape, kinds: &[u8], lens: &[u32], table: &mut [u32]) -> Tape
 }
 
 // block_with (1347).
+#[cycle(grammar)]
 fn bw(tape: Tape, kinds: &[u8], lens: &[u32], table: &mut [u32]) -> Tape
     requires { Ready tape kinds.now lens.now table.old }
     ensures { Ran block_with tt tape result kinds.now lens.now table.old table.new }
@@ -1752,6 +1817,7 @@ fn bw(tape: Tape, kinds: &[u8], lens: &[u32], table: &mut [u32]) -> Tape
 }
 
 // block_with (1347): behind `{`.
+#[cycle(grammar)]
 fn bo(tape: Tape, kinds: &[u8], lens: &[u32], table: &mut [u32]) -> Tape
     requires { Ready tape kinds.now lens.now table.old }
     ensures { Ran block_open tt tape result kinds.now lens.now table.old table.new }
@@ -1767,6 +1833,7 @@ fn bo(tape: Tape, kinds: &[u8], lens: &[u32], table: &mut [u32]) -> Tape
 }
 
 // block_with (1347): the body.
+#[cycle(grammar)]
 fn by(tape: Tape, kinds: &[u8], lens: &[u32], table: &mut [u32]) -> Tape
     requires { Ready tape kinds.now lens.now table.old }
     ensures { Ran block_body tt tape result kinds.now lens.now table.old table.new }
@@ -1784,6 +1851,7 @@ fn by(tape: Tape, kinds: &[u8], lens: &[u32], table: &mut [u32]) -> Tape
 }
 
 // block_with (1347): its loop.
+#[cycle(grammar)]
 fn bs(tape: Tape, kinds: &[u8], lens: &[u32], table: &mut [u32]) -> Tape
     requires { Ready tape kinds.now lens.now table.old }
     ensures { Ran block_stmts tt tape result kinds.now lens.now table.old table.new }
@@ -1799,6 +1867,7 @@ fn bs(tape: Tape, kinds: &[u8], lens: &[u32], table: &mut [u32]) -> Tape
 }
 
 // parenthesized (1384).
+#[cycle(grammar)]
 fn ps(tape: Tape, of: Listed, end: u8, kinds: &[u8], lens: &[u32], table: &mut [u32]) -> Tape
     requires { Ready tape kinds.now lens.now table.old }
     ensures { Ran (parenthesized (listed_of of) end) tt tape result kinds.now lens.now table.old table.new }
@@ -1815,6 +1884,7 @@ fn ps(tape: Tape, of: Listed, end: u8, kinds: &[u8], lens: &[u32], table: &mut [
 }
 
 // parenthesized (1384): its loop.
+#[cycle(grammar)]
 fn is(tape: Tape, of: Listed, kinds: &[u8], lens: &[u32], table: &mut [u32]) -> Tape
     requires { Ready tape kinds.now lens.now table.old }
     ensures { Ran (items (listed_of of)) tt tape result kinds.now lens.now table.old table.new }
@@ -1826,6 +1896,7 @@ fn is(tape: Tape, of: Listed, kinds: &[u8], lens: &[u32], table: &mut [u32]) -> 
 }
 
 // parenthesized (1384): its loop over expressions.
+#[cycle(grammar)]
 fn x(tape: Tape, kinds: &[u8], lens: &[u32], table: &mut [u32]) -> Tape
     requires { Ready tape kinds.now lens.now table.old }
     ensures { Ran expr_list tt tape result kinds.now lens.now table.old table.new }

@@ -1,0 +1,319 @@
+-- Assumes nothing.
+use Prim.Native.Nat.{zero, suc, ◌+◌, ◌-◌, ◌*◌, ◌≤◌, ◌<◌}
+use mathlib.Core.Path.{◌≡◌, refl, sym, ap, ◌∙◌}
+use mathlib.Core.Bool.{Bool, true, false}
+use mathlib.Core.Logic.{inl, inr}
+use native.Mathlib.Omega.{arith}
+use borrow.Author.Rules.{rules}
+use borrow.Author.Tests.{eq-eqb, ne_eqb}
+use Rattle.definition.specs.Classes.{is_path_component, kind_is_pat, is_pat_or_rest, is_use_part, is_select_arm}
+use Rattle.definition.specs.Modes.{Brace, Range}
+use Rattle.definition.specs.Prog.{mark, repeat}
+use Rattle.definition.specs.Grammar.{binary_turn, block, block_body, block_open, block_stmts, block_with, chain_link, chain_step, chain_turn, closure_arguments, condition, condition_init, condition_let, else_branch, else_branches, else_if, empty_group, expr_after, expr_binary, expr_binary_text, expr_chain, expr_for, expr_if, expr_if_any, expr_list, expr_loop, expr_match, expr_object, expr_primary, expr_range, expr_select, expr_tuple_or_group, expr_while, expr_with, fn_body, for_in, grammar, item_const, item_fn, item_impl, item_mod, items, local, match_arm, match_arms, match_case, match_list, nest, object_field, object_fields, operand, outer_binary, outer_expr_with, outer_expr_with_text, parenthesized, primary_path, range_rest, range_to, select_arm, select_arms, select_case, select_list, select_pat, stmt, stmt_expr, stmt_mod, stmt_once, stmt_text, tighter_turn, tuple_items, tuple_turn, while_turn}
+use Rattle.laws.specs.Progress.{bump_further, chain_step_further, else_branch_further, expr_further, match_case_further, nest_further, operator_further, select_case_further, stmt_further, path_component_some, use_path_some, object_key_some, glues_some, recovering_some}
+use Rattle.kinds.specs.Laws.{not_eof as none_eof, at_eof}
+use Rattle.tape.specs.declared.Tape.{Tape}
+use Rattle.tape.specs.View.{Step, Ran, said}
+use Rattle.tape.specs.Steps.{Loop, Onward, fuel, burns, here_few, marked_now, step_marked, held, held_now, followed, follows_len, not_key, both, cut, refusal, ends, if_yes, if_no, look, touch, spot, ask, ask_glued, ask_second, ask_second_as, scoped, unscoped, nothing, answered, answered_as, says, kept, refuses, refused_tape, inv_start, inv_again, inv_end, last, last_cut}
+use Rattle.tape.specs.Counted.{deep, entered, entered_bool, barred, goes_on, goes_some, goes_saw, goes_glued, and_on}
+use Rattle.grammar.specs.Cuts.{outer_assign, outer_chain, outer_op, outer_rest, primary_last, primary_sign, primary_word, stmt_inner, stmt_kind, stmt_outer}
+use Rattle.grammar.specs.Idle.{looked_for, idle_op}
+use Rattle.grammar.specs.Looked.{Next, Small, looked, read_as}
+use Rattle.grammar.specs.Loops.{Binding, Tightening, operator_goes, nest_goes, chain_goes}
+use Rattle.kinds.specs.Modes.{brace_of, range_of, cx_of}
+use Rattle.kinds.specs.Ops.{op_of}
+use Prim.Native.Nat.{ℕ, ◌<◌}
+use Rattle.grammar.proofs.+grammar.Given as goal
+
+abbrev pub decreases-a : goal.decreases-a
+decreases-a l = 13 * l.tape.left + 2
+
+abbrev pub decreases-b : goal.decreases-b
+decreases-b l = 13 * l.tape.left + 3
+
+abbrev pub decreases-bi : goal.decreases-bi
+decreases-bi l = 13 * l.tape.left + 0
+
+abbrev pub decreases-bl : goal.decreases-bl
+decreases-bl l = 13 * l.tape.left + 5
+
+abbrev pub decreases-bo : goal.decreases-bo
+decreases-bo l = 13 * l.tape.left + 3
+
+abbrev pub decreases-bs : goal.decreases-bs
+decreases-bs l = 13 * l.tape.left + 1
+
+abbrev pub decreases-bw : goal.decreases-bw
+decreases-bw l = 13 * l.tape.left + 4
+
+abbrev pub decreases-by : goal.decreases-by
+decreases-by l = 13 * l.tape.left + 2
+
+abbrev pub decreases-ca : goal.decreases-ca
+decreases-ca l = 13 * l.tape.left + 6
+
+abbrev pub decreases-cd : goal.decreases-cd
+decreases-cd l = 13 * l.tape.left + 3
+
+abbrev pub decreases-ch : goal.decreases-ch
+decreases-ch l = 13 * l.tape.left + 8
+
+abbrev pub decreases-ci : goal.decreases-ci
+decreases-ci l = 13 * l.tape.left + 2
+
+abbrev pub decreases-co : goal.decreases-co
+decreases-co l = 13 * l.tape.left + 4
+
+abbrev pub decreases-d : goal.decreases-d
+decreases-d l = 13 * l.tape.left + 7
+
+abbrev pub decreases-e : goal.decreases-e
+decreases-e l = 13 * l.tape.left + 3
+
+abbrev pub decreases-eb : goal.decreases-eb
+decreases-eb l = 13 * l.tape.left + 6
+
+abbrev pub decreases-eg : goal.decreases-eg
+decreases-eg l = 13 * l.tape.left + 3
+
+abbrev pub decreases-ei : goal.decreases-ei
+decreases-ei l = 13 * l.tape.left + 8
+
+abbrev pub decreases-el : goal.decreases-el
+decreases-el l = 13 * l.tape.left + 5
+
+abbrev pub decreases-en : goal.decreases-en
+decreases-en l = 13 * l.tape.left + 7
+
+abbrev pub decreases-er : goal.decreases-er
+decreases-er l = 13 * l.tape.left + 2
+
+abbrev pub decreases-ex : goal.decreases-ex
+decreases-ex l = 13 * l.tape.left + 1
+
+abbrev pub decreases-f : goal.decreases-f
+decreases-f l = 13 * l.tape.left + 2
+
+abbrev pub decreases-fo : goal.decreases-fo
+decreases-fo l = 13 * l.tape.left + 6
+
+abbrev pub decreases-h : goal.decreases-h
+decreases-h l = 13 * l.tape.left + 3
+
+abbrev pub decreases-i : goal.decreases-i
+decreases-i l = 13 * l.tape.left + 6
+
+abbrev pub decreases-im : goal.decreases-im
+decreases-im l = 13 * l.tape.left + 6
+
+abbrev pub decreases-is : goal.decreases-is
+decreases-is l = 13 * l.tape.left + 4
+
+abbrev pub decreases-it : goal.decreases-it
+decreases-it l = 13 * l.tape.left + 6
+
+abbrev pub decreases-l : goal.decreases-l
+decreases-l l = 13 * l.tape.left + 2
+
+abbrev pub decreases-li : goal.decreases-li
+decreases-li l = 13 * l.tape.left + 6
+
+abbrev pub decreases-lp : goal.decreases-lp
+decreases-lp l = 13 * l.tape.left + 6
+
+abbrev pub decreases-ma : goal.decreases-ma
+decreases-ma l = 13 * l.tape.left + 6
+
+abbrev pub decreases-mc : goal.decreases-mc
+decreases-mc l = 13 * l.tape.left + 4
+
+abbrev pub decreases-ml : goal.decreases-ml
+decreases-ml l = 13 * l.tape.left + 5
+
+abbrev pub decreases-n : goal.decreases-n
+decreases-n l = 13 * l.tape.left + 1
+
+abbrev pub decreases-o : goal.decreases-o
+decreases-o l = 13 * l.tape.left + 2
+
+abbrev pub decreases-ob : goal.decreases-ob
+decreases-ob l = 13 * l.tape.left + 12
+
+abbrev pub decreases-oc : goal.decreases-oc
+decreases-oc l = 13 * l.tape.left + 9
+
+abbrev pub decreases-of : goal.decreases-of
+decreases-of l = 13 * l.tape.left + 4
+
+abbrev pub decreases-oj : goal.decreases-oj
+decreases-oj l = 13 * l.tape.left + 5
+
+abbrev pub decreases-on : goal.decreases-on
+decreases-on l = 13 * l.tape.left + 1
+
+abbrev pub decreases-oo : goal.decreases-oo
+decreases-oo l = 13 * l.tape.left + 2
+
+abbrev pub decreases-ot : goal.decreases-ot
+decreases-ot l = 13 * l.tape.left + 3
+
+abbrev pub decreases-ou : goal.decreases-ou
+decreases-ou l = 13 * l.tape.left + 0
+
+abbrev pub decreases-p : goal.decreases-p
+decreases-p l = 13 * l.tape.left + 2
+
+abbrev pub decreases-pl : goal.decreases-pl
+decreases-pl l = 13 * l.tape.left + 6
+
+abbrev pub decreases-pp : goal.decreases-pp
+decreases-pp l = 13 * l.tape.left + 6
+
+abbrev pub decreases-pr : goal.decreases-pr
+decreases-pr l = 13 * l.tape.left + 11
+
+abbrev pub decreases-ps : goal.decreases-ps
+decreases-ps l = 13 * l.tape.left + 5
+
+abbrev pub decreases-pu : goal.decreases-pu
+decreases-pu l = 13 * l.tape.left + 10
+
+abbrev pub decreases-pw : goal.decreases-pw
+decreases-pw l = 13 * l.tape.left + 9
+
+abbrev pub decreases-r : goal.decreases-r
+decreases-r l = 13 * l.tape.left + 1
+
+abbrev pub decreases-rd : goal.decreases-rd
+decreases-rd l = 13 * l.tape.left + 2
+
+abbrev pub decreases-rr : goal.decreases-rr
+decreases-rr l = 13 * l.tape.left + 1
+
+abbrev pub decreases-s : goal.decreases-s
+decreases-s l = 13 * l.tape.left + 12
+
+abbrev pub decreases-sb : goal.decreases-sb
+decreases-sb l = 13 * l.tape.left + 11
+
+abbrev pub decreases-sc : goal.decreases-sc
+decreases-sc l = 13 * l.tape.left + 5
+
+abbrev pub decreases-se : goal.decreases-se
+decreases-se l = 13 * l.tape.left + 7
+
+abbrev pub decreases-si : goal.decreases-si
+decreases-si l = 13 * l.tape.left + 9
+
+abbrev pub decreases-sk : goal.decreases-sk
+decreases-sk l = 13 * l.tape.left + 8
+
+abbrev pub decreases-sl : goal.decreases-sl
+decreases-sl l = 13 * l.tape.left + 6
+
+abbrev pub decreases-sm : goal.decreases-sm
+decreases-sm l = 13 * l.tape.left + 7
+
+abbrev pub decreases-so : goal.decreases-so
+decreases-so l = 13 * l.tape.left + 10
+
+abbrev pub decreases-sp : goal.decreases-sp
+decreases-sp l = 13 * l.tape.left + 4
+
+abbrev pub decreases-st : goal.decreases-st
+decreases-st l = 13 * l.tape.left + 0
+
+abbrev pub decreases-sv : goal.decreases-sv
+decreases-sv l = 13 * l.tape.left + 1
+
+abbrev pub decreases-tg : goal.decreases-tg
+decreases-tg l = 13 * l.tape.left + 4
+
+abbrev pub decreases-u : goal.decreases-u
+decreases-u l = 13 * l.tape.left + 3
+
+abbrev pub decreases-w : goal.decreases-w
+decreases-w l = 13 * l.tape.left + 6
+
+abbrev pub decreases-x : goal.decreases-x
+decreases-x l = 13 * l.tape.left + 3
+
+abbrev pub invariant-b-loop-brace : goal.invariant-b-loop-brace
+invariant-b-loop-brace l =
+    Binding l.least (brace_of l.brace) (cx_of l.cx) l.initial.ahead l.ahead l.any l.initial.t l.t l.kinds l.lens l.initial.table l.table
+
+abbrev pub decreases-b-loop-brace : goal.decreases-b-loop-brace
+decreases-b-loop-brace l =
+    fuel l.t l.kinds
+
+abbrev pub invariant-bs-loop-table : goal.invariant-bs-loop-table
+invariant-bs-loop-table l =
+    Loop (block_stmts) (block_stmts) l.initial.t l.t l.kinds l.lens l.initial.table l.table
+
+abbrev pub decreases-bs-loop-table : goal.decreases-bs-loop-table
+decreases-bs-loop-table l =
+    fuel l.t l.kinds
+
+abbrev pub invariant-ch-loop-t : goal.invariant-ch-loop-t
+invariant-ch-loop-t l =
+    Loop (repeat chain_turn (l.last, l.any)) (repeat chain_turn (l.kind, false)) l.initial.t l.t l.kinds l.lens l.initial.table l.table
+
+abbrev pub decreases-ch-loop-t : goal.decreases-ch-loop-t
+decreases-ch-loop-t l =
+    fuel l.t l.kinds
+
+abbrev pub invariant-en-loop-table : goal.invariant-en-loop-table
+invariant-en-loop-table l =
+    Loop (else_branches) (else_branches) l.initial.t l.t l.kinds l.lens l.initial.table l.table
+
+abbrev pub decreases-en-loop-table : goal.decreases-en-loop-table
+decreases-en-loop-table l =
+    fuel l.t l.kinds
+
+abbrev pub invariant-ml-loop-table : goal.invariant-ml-loop-table
+invariant-ml-loop-table l =
+    Loop (match_list) (match_list) l.initial.t l.t l.kinds l.lens l.initial.table l.table
+
+abbrev pub decreases-ml-loop-table : goal.decreases-ml-loop-table
+decreases-ml-loop-table l =
+    fuel l.t l.kinds
+
+abbrev pub invariant-of-loop-table : goal.invariant-of-loop-table
+invariant-of-loop-table l =
+    Loop (object_fields) (object_fields) l.initial.t l.t l.kinds l.lens l.initial.table l.table
+
+abbrev pub decreases-of-loop-table : goal.decreases-of-loop-table
+decreases-of-loop-table l =
+    fuel l.t l.kinds
+
+abbrev pub invariant-rd-loop-op : goal.invariant-rd-loop-op
+invariant-rd-loop-op l =
+    Tightening l.c l.op (brace_of l.brace) (cx_of l.cx) l.place l.initial.ahead l.ahead l.initial.t l.t l.kinds l.lens l.initial.table l.table
+
+abbrev pub decreases-rd-loop-op : goal.decreases-rd-loop-op
+decreases-rd-loop-op l =
+    fuel l.t l.kinds
+
+abbrev pub invariant-sl-loop-table : goal.invariant-sl-loop-table
+invariant-sl-loop-table l =
+    Loop (select_list) (select_list) l.initial.t l.t l.kinds l.lens l.initial.table l.table
+
+abbrev pub decreases-sl-loop-table : goal.decreases-sl-loop-table
+decreases-sl-loop-table l =
+    fuel l.t l.kinds
+
+abbrev pub invariant-u-loop-table : goal.invariant-u-loop-table
+invariant-u-loop-table l =
+    Loop (repeat tuple_turn l.is_tuple) (repeat tuple_turn false) l.initial.t l.t l.kinds l.lens l.initial.table l.table
+
+abbrev pub decreases-u-loop-table : goal.decreases-u-loop-table
+decreases-u-loop-table l =
+    fuel l.t l.kinds
+
+abbrev pub invariant-x-loop-table : goal.invariant-x-loop-table
+invariant-x-loop-table l =
+    Loop (expr_list) (expr_list) l.initial.t l.t l.kinds l.lens l.initial.table l.table
+
+abbrev pub decreases-x-loop-table : goal.decreases-x-loop-table
+decreases-x-loop-table l =
+    fuel l.t l.kinds

@@ -1,0 +1,113 @@
+-- Written by tools/walk.py from the code and its program; docs/CONTRIBUTING.md says how.
+-- Assumes nothing.
+use Prim.Native.Nat.{zero, suc, ◌+◌, ◌-◌, ◌*◌, ◌≤◌, ◌<◌}
+use mathlib.Core.Path.{◌≡◌, refl, sym, ap, ◌∙◌}
+use mathlib.Core.Bool.{Bool, true, false}
+use mathlib.Core.Logic.{inl, inr}
+use native.Mathlib.Omega.{arith}
+use borrow.Author.Rules.{rules}
+use borrow.Author.Tests.{eq-eqb, ne_eqb}
+use Rattle.definition.specs.Classes.{is_path_component, kind_is_pat, is_pat_or_rest, is_use_part, is_select_arm}
+use Rattle.definition.specs.Modes.{Brace, Range}
+use Rattle.definition.specs.Prog.{mark, repeat}
+use Rattle.definition.specs.Grammar.{field_link}
+use Rattle.laws.specs.Progress.{path_component_some, use_path_some, object_key_some, glues_some, recovering_some}
+use Rattle.kinds.specs.Laws.{not_eof as none_eof, at_eof}
+use Rattle.tape.specs.declared.Tape.{Tape}
+use Rattle.tape.specs.View.{Step, Ran, said}
+use Rattle.tape.specs.Steps.{Loop, Onward, fuel, burns, here_few, marked_now, step_marked, held, held_now, followed, follows_len, not_key, both, cut, refusal, ends, if_yes, if_no, look, touch, spot, ask, ask_glued, ask_second, ask_second_as, scoped, unscoped, nothing, answered, answered_as, says, kept, refuses, refused_tape, inv_start, inv_again, inv_end, last, last_cut}
+use Rattle.tape.specs.Counted.{deep, entered, entered_bool, barred, goes_on, goes_some, goes_saw, goes_glued, and_on}
+use borrow.Author.Rules.{rules}
+use Rattle.grammar.proofs.steps.field_link.Goals as goal
+
+pub bump-t-requires : goal.bump-t-requires
+bump-t-requires c =
+    c.requires
+
+pub shape_of-table-then-t-ne0 : goal.shape_of-table-then-t-ne0
+shape_of-table-then-t-ne0 c =
+    (c.bump-t.ensures.under 0).len
+
+pub returns-then-t-ne0 : goal.returns-then-t-ne0
+unfolding field_link
+returns-then-t-ne0 c =
+    record { under = λ m. cut (c.bump-t.ensures.under _) c.if-t-ne0.true }
+
+pub peek-k-requires : goal.peek-k-requires
+peek-k-requires c =
+    ((c.bump-t.ensures.under 0).ready c.if-t-ne0.false).looks
+
+pub bump-t-requires-then-k-eq-AWAIT : goal.bump-t-requires-then-k-eq-AWAIT
+bump-t-requires-then-k-eq-AWAIT c =
+    (c.bump-t.ensures.under 0).ready c.if-t-ne0.false
+
+pub shape_of-table-then-t-ne0-2 : goal.shape_of-table-then-t-ne0-2
+shape_of-table-then-t-ne0-2 c =
+    (c.bump-t-then-k-eq-AWAIT.ensures.under 0).len ∙ (c.bump-t.ensures.under 0).len
+
+pub returns-then-t-ne0-2 : goal.returns-then-t-ne0-2
+unfolding field_link
+returns-then-t-ne0-2 c =
+    record { under = λ m. both (c.bump-t.ensures.under _) c.if-t-ne0.false (look c.peek-k.ensures (if_yes (eq-eqb _ _ c.if-k-eq-AWAIT.true) (cut (c.bump-t-then-k-eq-AWAIT.ensures.under _) c.if-t-ne0-2.true))) }
+
+pub shape_of-table-then-k-eq-AWAIT : goal.shape_of-table-then-k-eq-AWAIT
+shape_of-table-then-k-eq-AWAIT c =
+    (c.bump-t-then-k-eq-AWAIT.ensures.under 0).len ∙ (c.bump-t.ensures.under 0).len
+
+pub returns-then-k-eq-AWAIT : goal.returns-then-k-eq-AWAIT
+unfolding field_link
+returns-then-k-eq-AWAIT c =
+    record { under = λ m. both (c.bump-t.ensures.under _) c.if-t-ne0.false (look c.peek-k.ensures (if_yes (eq-eqb _ _ c.if-k-eq-AWAIT.true) (both (c.bump-t-then-k-eq-AWAIT.ensures.under _) c.if-t-ne0-2.false (answered ((c.bump-t-then-k-eq-AWAIT.ensures.under 0).ready c.if-t-ne0-2.false))))) }
+
+pub path-t-requires : goal.path-t-requires
+path-t-requires c =
+    (c.bump-t.ensures.under 0).ready c.if-t-ne0.false
+
+pub shape_of-table-then-t-ne0-3 : goal.shape_of-table-then-t-ne0-3
+shape_of-table-then-t-ne0-3 c =
+    (c.path-t.ensures.under 0).len ∙ (c.bump-t.ensures.under 0).len
+
+pub returns-then-t-ne0-3 : goal.returns-then-t-ne0-3
+unfolding field_link
+returns-then-t-ne0-3 c =
+    record { under = λ m. both (c.bump-t.ensures.under _) c.if-t-ne0.false (look c.peek-k.ensures (if_no (ne_eqb _ _ c.if-k-eq-AWAIT.false) (if_yes (sym c.is_path_component.ensures ∙ c.if-is_path_component.true) (cut (c.path-t.ensures.under _) c.if-t-ne0-3.true)))) }
+
+pub shape_of-table-then-is_path_component : goal.shape_of-table-then-is_path_component
+shape_of-table-then-is_path_component c =
+    (c.path-t.ensures.under 0).len ∙ (c.bump-t.ensures.under 0).len
+
+pub returns-then-is_path_component : goal.returns-then-is_path_component
+unfolding field_link
+returns-then-is_path_component c =
+    record { under = λ m. both (c.bump-t.ensures.under _) c.if-t-ne0.false (look c.peek-k.ensures (if_no (ne_eqb _ _ c.if-k-eq-AWAIT.false) (if_yes (sym c.is_path_component.ensures ∙ c.if-is_path_component.true) (both (c.path-t.ensures.under _) c.if-t-ne0-3.false (answered ((c.path-t.ensures.under 0).ready c.if-t-ne0-3.false)))))) }
+
+pub bump-t-requires-then-k-eq-NUMBER : goal.bump-t-requires-then-k-eq-NUMBER
+bump-t-requires-then-k-eq-NUMBER c =
+    (c.bump-t.ensures.under 0).ready c.if-t-ne0.false
+
+pub shape_of-table-then-t-ne0-4 : goal.shape_of-table-then-t-ne0-4
+shape_of-table-then-t-ne0-4 c =
+    (c.bump-t-then-k-eq-NUMBER.ensures.under 0).len ∙ (c.bump-t.ensures.under 0).len
+
+pub returns-then-t-ne0-4 : goal.returns-then-t-ne0-4
+unfolding field_link
+returns-then-t-ne0-4 c =
+    record { under = λ m. both (c.bump-t.ensures.under _) c.if-t-ne0.false (look c.peek-k.ensures (if_no (ne_eqb _ _ c.if-k-eq-AWAIT.false) (if_no (sym c.is_path_component.ensures ∙ c.if-is_path_component.false) (if_yes (eq-eqb _ _ c.if-k-eq-NUMBER.true) (cut (c.bump-t-then-k-eq-NUMBER.ensures.under _) c.if-t-ne0-4.true))))) }
+
+pub shape_of-table-then-k-eq-NUMBER : goal.shape_of-table-then-k-eq-NUMBER
+shape_of-table-then-k-eq-NUMBER c =
+    (c.bump-t-then-k-eq-NUMBER.ensures.under 0).len ∙ (c.bump-t.ensures.under 0).len
+
+pub returns-then-k-eq-NUMBER : goal.returns-then-k-eq-NUMBER
+unfolding field_link
+returns-then-k-eq-NUMBER c =
+    record { under = λ m. both (c.bump-t.ensures.under _) c.if-t-ne0.false (look c.peek-k.ensures (if_no (ne_eqb _ _ c.if-k-eq-AWAIT.false) (if_no (sym c.is_path_component.ensures ∙ c.if-is_path_component.false) (if_yes (eq-eqb _ _ c.if-k-eq-NUMBER.true) (both (c.bump-t-then-k-eq-NUMBER.ensures.under _) c.if-t-ne0-4.false (answered ((c.bump-t-then-k-eq-NUMBER.ensures.under 0).ready c.if-t-ne0-4.false))))))) }
+
+pub shape_of-table : goal.shape_of-table
+shape_of-table c =
+    (c.bump-t.ensures.under 0).len
+
+pub returns : goal.returns
+unfolding field_link
+returns c =
+    record { under = λ m. both (c.bump-t.ensures.under _) c.if-t-ne0.false (look c.peek-k.ensures (if_no (ne_eqb _ _ c.if-k-eq-AWAIT.false) (if_no (sym c.is_path_component.ensures ∙ c.if-is_path_component.false) (if_no (ne_eqb _ _ c.if-k-eq-NUMBER.false) (answered ((c.bump-t.ensures.under 0).ready c.if-t-ne0.false)))))) }
