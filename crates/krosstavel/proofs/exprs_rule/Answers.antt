@@ -1,0 +1,78 @@
+-- Written by tools/walk.py from the code and its program; docs/CONTRIBUTING.md says how.
+-- Assumes nothing.
+use Prim.Native.Nat.{zero, suc, ◌+◌, ◌-◌, ◌*◌, ◌≤◌, ◌<◌}
+use mathlib.Core.Path.{◌≡◌, refl, sym, ap, ◌∙◌}
+use mathlib.Core.Bool.{Bool, true, false}
+use mathlib.Core.Logic.{inl, inr}
+use native.Mathlib.Omega.{arith}
+use borrow.Author.Rules.{rules}
+use borrow.Author.Tests.{eq-eqb, ne_eqb}
+use Rattle.definition.specs.Classes.{is_path_component, kind_is_pat, is_pat_or_rest, is_use_part, is_select_arm}
+use Rattle.definition.specs.Modes.{Brace, Range}
+use Rattle.definition.specs.Prog.{mark, repeat}
+use Rattle.definition.specs.Grammar.{bump_while, exprs, not_eof, separated, while, while_turn}
+use Rattle.laws.specs.Progress.{expr_further, path_component_some, use_path_some, object_key_some, glues_some, recovering_some}
+use Rattle.kinds.specs.Laws.{not_eof as none_eof, at_eof}
+use Rattle.tape.specs.declared.Tape.{Tape}
+use Rattle.tape.specs.View.{Step, Ran, said}
+use Rattle.tape.specs.Steps.{Loop, Onward, fuel, burns, here_few, marked_now, step_marked, held, held_now, followed, follows_len, not_key, both, cut, refusal, ends, if_yes, if_no, look, touch, spot, ask, ask_glued, ask_second, ask_second_as, scoped, unscoped, nothing, answered, answered_as, says, kept, refuses, refused_tape, inv_start, inv_again, inv_end, last, last_cut}
+use Rattle.tape.specs.Counted.{deep, entered, entered_bool, barred, goes_on, goes_some, goes_saw, goes_glued, and_on}
+use Rattle.krosstavel.specs.Starting.{same_step, some_is_some}
+use Rattle.krosstavel.proofs.exprs_rule.Goals as goal
+
+pub loop-table-init : goal.loop-table-init
+unfolding exprs while_turn separated
+loop-table-init c =
+    record { ready = c.requires.2; under = λ m. inv_start }
+
+pub peek-requires : goal.peek-requires
+peek-requires c =
+    c.loop-table.invariant.ready.looks
+
+pub p-t-requires : goal.p-t-requires
+p-t-requires c =
+    c.loop-table.invariant.ready
+
+pub shape_of-table-then-t-ne0 : goal.shape_of-table-then-t-ne0
+shape_of-table-then-t-ne0 c =
+    (c.p-t.ensures.under 0).len ∙ (c.loop-table.invariant.under 0).len
+
+pub returns-then-t-ne0 : goal.returns-then-t-ne0
+unfolding exprs while_turn separated
+returns-then-t-ne0 c =
+    cut {a = tt} (inv_end (c.loop-table.invariant.under _) (last_cut (ask c.peek.ensures (if_yes (sym c.is_some.ensures ∙ c.loop-table-test.true) (cut (cut (c.p-t.ensures.under _) c.if-t-ne0.true) c.if-t-ne0.true))) c.if-t-ne0.true)) c.if-t-ne0.true
+
+pub bump_while-t-requires : goal.bump_while-t-requires
+bump_while-t-requires c =
+    (omega arith, (c.p-t.ensures.under 0).ready c.if-t-ne0.false)
+
+pub shape_of-table-then-t-ne0-2 : goal.shape_of-table-then-t-ne0-2
+shape_of-table-then-t-ne0-2 c =
+    (c.bump_while-t.ensures.under 0).len ∙ ((c.p-t.ensures.under 0).len ∙ (c.loop-table.invariant.under 0).len)
+
+pub returns-then-t-ne0-2 : goal.returns-then-t-ne0-2
+unfolding exprs while_turn separated
+returns-then-t-ne0-2 c =
+    cut {a = tt} (inv_end (c.loop-table.invariant.under _) (last_cut (ask c.peek.ensures (if_yes (sym c.is_some.ensures ∙ c.loop-table-test.true) (cut (both (c.p-t.ensures.under _) c.if-t-ne0.false (refusal (ends (same_step (ap bump_while c.treated-k.ensures) (c.bump_while-t.ensures.under _))) c.if-t-ne0-2.true)) c.if-t-ne0-2.true))) c.if-t-ne0-2.true)) c.if-t-ne0-2.true
+
+pub loop-table-smaller : goal.loop-table-smaller
+loop-table-smaller c =
+    burns ((c.bump_while-t.ensures.under 0).ready c.if-t-ne0-2.false) (and_on (goes_on (c.p-t.ensures.under 0) c.if-t-ne0.false expr_further) (same_step (ap bump_while c.treated-k.ensures) (c.bump_while-t.ensures.under 0)) c.if-t-ne0-2.false)
+
+pub loop-table-preserved : goal.loop-table-preserved
+unfolding exprs while_turn separated
+loop-table-preserved c =
+    record { ready = (c.bump_while-t.ensures.under 0).ready c.if-t-ne0-2.false; under = λ m. inv_again (c.loop-table.invariant.under m) (ask c.peek.ensures (if_yes (sym c.is_some.ensures ∙ c.loop-table-test.true) (both (both (c.p-t.ensures.under _) c.if-t-ne0.false (ends (same_step (ap bump_while c.treated-k.ensures) (c.bump_while-t.ensures.under _)))) c.if-t-ne0-2.false (nothing ((c.bump_while-t.ensures.under 0).ready c.if-t-ne0-2.false))))) c.if-t-ne0-2.false (and_on (goes_on (c.p-t.ensures.under 0) c.if-t-ne0.false expr_further) (same_step (ap bump_while c.treated-k.ensures) (c.bump_while-t.ensures.under 0)) c.if-t-ne0-2.false) }
+
+pub close_root-requires : goal.close_root-requires
+close_root-requires c =
+    ((c.loop-table.invariant.under _).marked c.requires.0, c.loop-table.invariant.ready)
+
+pub shape_of-table : goal.shape_of-table
+shape_of-table c =
+    c.close_root.ensures.len ∙ (c.loop-table.invariant.under 0).len
+
+pub returns : goal.returns
+unfolding exprs while_turn separated
+returns c =
+    both (inv_end (c.loop-table.invariant.under _) (last (ask c.peek.ensures (if_no (sym c.is_some.ensures ∙ c.loop-table-test.false) (nothing c.loop-table.invariant.ready))) c.loop-table.invariant.ready.going)) c.loop-table.invariant.ready.going c.close_root.ensures

@@ -1,0 +1,14 @@
+-- Written by tools/walk.py from the code and its program; docs/CONTRIBUTING.md says how.
+-- Assumes nothing.
+use native.Mathlib.Omega.{arith}
+use Rattle.entry.specs.Table.{settled}
+use borrow.Author.Rules.{rules}
+use Rattle.krosstavel.proofs.format.Goals as goal
+
+pub settle-requires : goal.settle-requires
+settle-requires c =
+    omega (arith, c.format_rows-r.ensures.inside, c.format_rows-r.ensures.len)
+
+pub returns : goal.returns
+returns c =
+    settled c.format_rows-r.ensures c.settle.ensures
