@@ -1,0 +1,9 @@
+-- `night::run` meets its contract: the job's rows stand behind those taken, and its record has its answer.
+-- Assumes nothing.
+use Prim.Native.Nat.{◌*◌}
+use Rattle.night.specs.Steps.{free_length, done}
+use borrow.Author.Rules.{rules}
+use Rattle.night.proofs.run.Goals as goal
+
+pub returns : goal.returns
+returns c = done c.args.job c.requires (free_length (4 * c.args.rows) c.args.table.now) c.job_rows-outcome.ensures c.as_numbers-answer.ensures
