@@ -11,9 +11,10 @@ use Rattle.trees.specs.Forest.{Forest, none, node, leaves, rows}
 use Rattle.trees.specs.Planted.{Nodes}
 use Rattle.trees.specs.Input.{tokens}
 use Rattle.trees.specs.Sound.{Named}
-use Rattle.trees.specs.Nested.{nested}
-use Rattle.trees.specs.Lossless.{leaf_rows, lossless_lists}
-use Rattle.trees.specs.Ends.{never_faults, refusals, zero_accepted}
+use Rattle.trees.proofs.Nested.{nested}
+use Rattle.trees.specs.Lossless.{leaf_rows}
+use Rattle.trees.proofs.Lossless.{lossless_lists}
+use Rattle.trees.proofs.Ends.{never_faults, refusals, zero_accepted}
 use Rattle.entry.specs.Promise.{Answers, Answered}
 use Rattle.answers.specs.Left.{Tree, tree, refusal}
 

@@ -7,7 +7,7 @@ use Rattle.trees.specs.Forest.{st, kinds, lens}
 use Rattle.lines.specs.Line.{Item, Line, spell, Links, Reads, FirstClash}
 use Rattle.lines.specs.LineTree.{line_f, line_place}
 use Rattle.lines.specs.LineDemand.{parse, Call, otherwise, Answers as LineAnswers}
-use Rattle.lines.specs.LineTheorem.{line}
+use Rattle.lines.proofs.LineTheorem.{line}
 use Rattle.entry.specs.Promise.{Answers, Answered}
 use Rattle.answers.specs.Left.{Tree, Refusal, tree, refusal}
 

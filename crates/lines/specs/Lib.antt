@@ -4,12 +4,4 @@ pub mod LineKinds
 pub mod LineTable
 pub mod LineTree
 pub mod LineDemand
-pub mod Grouping
 pub mod Writes
-pub mod LineSizes
-pub mod LineRun
-pub mod LineSpell
-pub mod LineSim
-pub mod LineEntry
-pub mod LineTheorem
-pub mod LineKnown

@@ -4,9 +4,6 @@ pub mod Input
 pub mod Root
 pub mod Sound
 pub mod Pieces
-pub mod Expressions
-pub mod Rules
 pub mod Nested
 pub mod Lossless
-pub mod Ends
 pub mod Two

@@ -7,9 +7,9 @@ use Rattle.definition.specs.Kinds.{K-not}
 use Rattle.definition.specs.Classes.{among, is_trivia, is_lit}
 use Rattle.trees.specs.Forest.{Tok}
 use Rattle.lines.specs.Line.{Sign, one, is_not, Item, Line, All, Head, Gap, Operand, Operator, Proper, ProperLine, is_operand, sign_toks, rest_toks, spell}
-use Rattle.lines.specs.Grouping.{apart}
+use Rattle.lines.proofs.Grouping.{apart}
 use Rattle.lines.specs.Writes.{Solid}
-use Rattle.lines.specs.LineRun.{operand_solid, rest_solid}
+use Rattle.lines.proofs.LineRun.{operand_solid, rest_solid}
 
 -- ## What is no trivia
 

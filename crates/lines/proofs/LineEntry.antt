@@ -14,11 +14,11 @@ use Rattle.trees.specs.Forest.{Tok, Forest, none, node, ◌⊕◌, size, leaves,
 use Rattle.lines.specs.Line.{Item, Line, Proper, ProperLine, rest_toks, spell, bind, Links, end, link, flatten}
 use Rattle.lines.specs.LineKinds.{every, operands, operand_every}
 use Rattle.lines.specs.LineTree.{around, links_f, line_f}
-use Rattle.lines.specs.Grouping.{Verdict, fine, clash, judge, Shape, all_map}
+use Rattle.lines.proofs.Grouping.{Verdict, fine, clash, judge, Shape, all_map}
 use Rattle.lines.specs.Writes.{Solid, Job, input, At, got, Runs, Enters, Sees, sees_end, sees_gap, at_on, at_leafs, at_as, seq_ok, seq_no, test_yes, test_no, done_ok, loop_end, loop_no, loop_more, enter_ok, call_ok, to, halt_to, scope_ok, scope_here, flush_here, close_ok, nth_ok, glued_ok}
-use Rattle.lines.specs.LineSizes.{operand_g, group_f, group_is, wrap, group_leaves, operand_length, operand_size, around_size, group_size, group_around_size}
-use Rattle.lines.specs.LineRun.{operand_never, bind_pos, operand_solid, operand_sees, Comes, Stands, past_operand, next_op, look_ok, kind_of, outer_rest, outer_ok}
-use Rattle.lines.specs.LineSim.{result, judged, any_of, Ready, sim}
+use Rattle.lines.proofs.LineSizes.{operand_g, group_f, group_is, wrap, group_leaves, operand_length, operand_size, around_size, group_size, group_around_size}
+use Rattle.lines.proofs.LineRun.{operand_never, bind_pos, operand_solid, operand_sees, Comes, Stands, past_operand, next_op, look_ok, kind_of, outer_rest, outer_ok}
+use Rattle.lines.proofs.LineSim.{result, judged, any_of, Ready, sim}
 
 -- ## outer_expr_with
 

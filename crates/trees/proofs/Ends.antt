@@ -5,7 +5,8 @@ use Rattle.std.proofs.Common.{subst, arith}
 use Rattle.definition.specs.Tape.{State, Fault, Out, ok, refused, fault}
 use Rattle.definition.specs.Parse.{Entry, parse, number_of}
 use Rattle.trees.specs.Input.{tokens, tokens_length}
-use Rattle.trees.specs.Nested.{Whole, parse_whole}
+use Rattle.trees.specs.Nested.{Whole}
+use Rattle.trees.proofs.Nested.{parse_whole}
 
 -- **No call ends in a fault**: every loop of the grammar ends, and every close is over the mark of the checkpoint that it stands in.
 pub never_faults : (e : Entry) (ks ls : List ℕ) (n limit : ℕ) (w : Fault) → parse e ks ls n limit ≡ fault w → ⊥

@@ -17,7 +17,7 @@ use Rattle.trees.specs.Forest.{Tok, Forest, none, leaf, node, ◌⊕◌, size, s
 use Rattle.lines.specs.Line.{Sign, one, is_not, Item, All, Head, Gap, is_operand, is_operator, Operand, Operator, Proper, sign_toks, rest_toks, key, bind}
 use Rattle.lines.specs.LineKinds.{every, operands, operand_every, every_in, operator_every}
 use Rattle.lines.specs.LineTree.{operand_f}
-use Rattle.lines.specs.LineSizes.{operand_g}
+use Rattle.lines.proofs.LineSizes.{operand_g}
 use Rattle.lines.specs.Writes.{Solid, Job, input, At, Got, got, Runs, Enters, Sees, sees_gap, sees_zero, sees_suc, sees_end, sees_to, sees_as, at_on, at_leafs, at_as, seq_ok, test_yes, test_no, done_ok, loop_end, loop_more, enter_ok, call_ok, to, scope_ok, scope_here, bump_ok, bump_here, close_ok, nth_ok, glued_ok}
 
 -- ## Kinds

@@ -17,10 +17,10 @@ use Rattle.trees.specs.Forest.{Tok, Forest, ◌⊕◌, size, leaves, leafs, app_
 use Rattle.lines.specs.Line.{Item, All, Head, Proper, sign_toks, rest_toks, bind, Links, end, link, flatten, Tighter}
 use Rattle.lines.specs.LineKinds.{every, every_in}
 use Rattle.lines.specs.LineTree.{sign_f, around, links_f, place}
-use Rattle.lines.specs.Grouping.{Verdict, fine, clash, past, or_else, neighbour, judge, Shape, Loose, all_map, all_back, head_map}
+use Rattle.lines.proofs.Grouping.{Verdict, fine, clash, past, or_else, neighbour, judge, Shape, Loose, all_map, all_back, head_map}
 use Rattle.lines.specs.Writes.{Job, At, Got, got, halt, Runs, at_on, at_leafs, at_as, count, seq_ok, seq_no, test_yes, test_no, done_ok, stop_no, loop_end, loop_no, loop_more, enter_ok, call_ok, to, halt_to, scope_ok, scope_here, close_ok, here_ok}
-use Rattle.lines.specs.LineSizes.{operand_g, group_f, wrap, plain, rest_app, rest_length_app, rest_length, sign_f_leaves, group_leaves, group_is, operand_length, operand_size, group_around_size, link_size}
-use Rattle.lines.specs.LineRun.{bind_every, bind_pos, operand_solid, sign_solid, Comes, Stands, past_operand, op_of, next_op, look_ok, advance_ok, operand_ok}
+use Rattle.lines.proofs.LineSizes.{operand_g, group_f, wrap, plain, rest_app, rest_length_app, rest_length, sign_f_leaves, group_leaves, group_is, operand_length, operand_size, group_around_size, link_size}
+use Rattle.lines.proofs.LineRun.{bind_every, bind_pos, operand_solid, sign_solid, Comes, Stands, past_operand, op_of, next_op, look_ok, advance_ok, operand_ok}
 
 -- what a verdict makes of an outcome, where n tokens stand before; and where f has been written before
 abbrev pub result : {A : Type 0} → ℕ → Verdict → Got A → Got A

@@ -15,12 +15,12 @@ use Rattle.lines.specs.Line.{Sign, one, is_not, Item, Line, All, Gap, Operand, O
 use Rattle.lines.specs.LineKinds.{operand_token, operator_token, trivia_token}
 use Rattle.lines.specs.LineTree.{links_f, line_place, line_f}
 use Rattle.lines.specs.LineDemand.{parse, enough, Call, Answers}
-use Rattle.lines.specs.Grouping.{Verdict, fine, clash, judge, Shape, shape, tells, Tells, only, first_only, never_both, valid_shape, all_map, all_append, reads_fine, reads_or_clashes}
+use Rattle.lines.proofs.Grouping.{Verdict, fine, clash, judge, Shape, shape, tells, Tells, only, first_only, never_both, valid_shape, all_map, all_append, reads_fine, reads_or_clashes}
 use Rattle.lines.specs.Writes.{Job, got, out, fits}
-use Rattle.lines.specs.LineSizes.{wrap, rest_length_app, rest_length, link_size}
-use Rattle.lines.specs.LineRun.{key_operator}
-use Rattle.lines.specs.LineSim.{result}
-use Rattle.lines.specs.LineEntry.{expr_f, expr_size, begin, exprs_ok}
+use Rattle.lines.proofs.LineSizes.{wrap, rest_length_app, rest_length, link_size}
+use Rattle.lines.proofs.LineRun.{key_operator}
+use Rattle.lines.proofs.LineSim.{result}
+use Rattle.lines.proofs.LineEntry.{expr_f, expr_size, begin, exprs_ok}
 
 -- ## Four rows a token are enough
 

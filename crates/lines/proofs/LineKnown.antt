@@ -13,9 +13,9 @@ use Rattle.trees.specs.Forest.{rows, st, kinds, lens}
 use Rattle.lines.specs.Line.{All, Item, Line, Links, end, link, Tighter, FirstClash, spell, bind, is_operand, is_operator}
 use Rattle.lines.specs.LineTree.{line_f, line_place, place}
 use Rattle.lines.specs.LineDemand.{parse, Call, enough}
-use Rattle.lines.specs.Grouping.{own, never_both}
+use Rattle.lines.proofs.Grouping.{own, never_both}
 use Rattle.lines.specs.Examples.{op, of, sp, spaced, sum, sum_tree, single, falling, falling_tree, rising, rising_tree, rising_spaced, rising_spaced_tree, hill, hill_tree, both, both_tree, guard, guard_tree, guard_reads, negated, negated_tree, equal, equal_tree, twice, twice_clashes, far, far_clashes, far_spaced, two, two_clashes, climb, tower}
-use Rattle.lines.specs.LineTheorem.{line}
+use Rattle.lines.proofs.LineTheorem.{line}
 
 -- ## The first clashes: what stands before the right operator reads as a grouping
 

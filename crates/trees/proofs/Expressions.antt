@@ -15,7 +15,8 @@ use Rattle.laws.specs.Progress as far
 use Rattle.trees.specs.Forest.{Tok, kinds, in_of}
 use Rattle.trees.specs.Root.{post_choose}
 use Rattle.trees.specs.Sound.{Named, Within, Fine, Any, Asks, Entries, Under, Safe, Keeps, here_within, fine_then, fine_choose, fine_stay, fine_inside, fine_scope, fine_loop, Moved, moves_further, free, s_true, s_seq, s_bump, s_loop, s_while}
-use Rattle.trees.specs.Pieces.{steps, tokens, pats, while_next, while_token, while_glued, modifiers_safe, pat_list_safe}
+use Rattle.trees.specs.Pieces.{while_next, while_token, while_glued}
+use Rattle.trees.proofs.Pieces.{steps, tokens, pats, modifiers_safe, pat_list_safe}
 
 -- ## Expressions
 

@@ -16,8 +16,9 @@ use Rattle.trees.specs.Forest.{Tok, in_of}
 use Rattle.trees.specs.Input.{treated_some}
 use Rattle.trees.specs.Root.{before}
 use Rattle.trees.specs.Sound.{Within, Fine, Any, Asks, Entries, Sound, Under, Safe, here_within, fine_then, fine_stay, free, s_done, s_seq, s_flush, s_bump}
-use Rattle.trees.specs.Pieces.{steps, while_next, while_token, bump_while_safe, path_text_safe, pat_text_safe, pat_list_safe, item_struct_safe, item_use_safe, item_use_text_safe, item_enum_safe}
-use Rattle.trees.specs.Expressions.{values, stmt_safe, expr_with_safe, expr_primary_safe, expr_chain_safe, expr_range_safe, binary_fine, binary_text_fine}
+use Rattle.trees.specs.Pieces.{while_next, while_token, bump_while_safe}
+use Rattle.trees.proofs.Pieces.{steps, path_text_safe, pat_text_safe, pat_list_safe, item_struct_safe, item_use_safe, item_use_text_safe, item_enum_safe}
+use Rattle.trees.proofs.Expressions.{values, stmt_safe, expr_with_safe, expr_primary_safe, expr_chain_safe, expr_range_safe, binary_fine, binary_text_fine}
 
 -- ## The texts of the counted rules that hold expressions
 
