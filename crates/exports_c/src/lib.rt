@@ -1,0 +1,59 @@
+// The calls of `exports` under their names for C: what the archive has. Each hands its arguments on, and promises what the one that it calls promises.
+#![tactic(auto)]
+
+ghost use Rattle.std.specs.Prelude.{length};
+ghost use Rattle.definition.specs.Parse.{root as root_entry, exprs as exprs_entry, format as format_entry};
+ghost use Rattle.entry.specs.Promise.{Answered};
+ghost use Rattle.night.specs.Promise.{Nightly};
+
+use entry::Answer;
+use night::Job;
+
+#[unsafe(no_mangle)]
+pub extern "C" fn krosstavel_root(
+    kinds: &[u8],
+    lens: &[u32],
+    table: &mut [u32],
+    limit: u32,
+) -> Answer
+    ensures { Answered root_entry kinds.now lens.now (length table.old) limit result.number result.place result.rows table.new }
+{
+    exports::krosstavel_root(kinds, lens, table, limit)
+}
+
+#[unsafe(no_mangle)]
+pub extern "C" fn krosstavel_exprs(
+    kinds: &[u8],
+    lens: &[u32],
+    table: &mut [u32],
+    separator: u32,
+    limit: u32,
+) -> Answer
+    ensures { Answered (exprs_entry separator) kinds.now lens.now (length table.old) limit result.number result.place result.rows table.new }
+{
+    exports::krosstavel_exprs(kinds, lens, table, separator, limit)
+}
+
+#[unsafe(no_mangle)]
+pub extern "C" fn krosstavel_format(
+    kinds: &[u8],
+    lens: &[u32],
+    table: &mut [u32],
+    limit: u32,
+) -> Answer
+    ensures { Answered format_entry kinds.now lens.now (length table.old) limit result.number result.place result.rows table.new }
+{
+    exports::krosstavel_format(kinds, lens, table, limit)
+}
+
+#[unsafe(no_mangle)]
+pub extern "C" fn krosstavel_batch(
+    kinds: &[u8],
+    lens: &[u32],
+    jobs: &mut [Job],
+    table: &mut [u32],
+) -> Answer
+    ensures { Nightly kinds.now lens.now jobs.old (length table.old) result jobs.new table.new }
+{
+    exports::krosstavel_batch(kinds, lens, jobs, table)
+}
