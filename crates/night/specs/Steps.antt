@@ -7,7 +7,6 @@ use Rattle.std.proofs.lemmas.Bool.{not-true, not-false, lt-leb}
 use borrow.Rule.Slice.PartMut.{put_mid}
 use Rattle.definition.specs.Tape.{Out, ok, refused, fault, guard}
 use Rattle.definition.specs.Parse.{root, exprs, format, parse, flat, number_of, place_of, rows_of}
-use Rattle.definition.specs.Night as definition
 use Rattle.definition.specs.Night.{entry_of, part, outcome, refusal}
 use Rattle.laws.specs.Bools.{and_second}
 use Rattle.entry.specs.declared.Outcome.{Outcome}

@@ -2,7 +2,7 @@
 -- Assumes nothing.
 use Rattle.std.specs.Prelude.{ℕ, ◌+◌, ◌≤◌, ◌<◌, ◌≡◌, ◌⊎◌, List, eqb}
 use Rattle.std.proofs.Common.{inl, inr}
-use Rattle.definition.specs.Prog.{Prog, done, seq, bump, test, repeat}
+use Rattle.definition.specs.Prog.{done, seq, bump, test, repeat}
 use Rattle.definition.specs.Grammar.{Matcher, stream, stream_turn}
 use Rattle.tape.specs.View.{Step}
 use Rattle.tape.specs.Steps.{Loop}

@@ -2,16 +2,15 @@
 -- Assumes nothing.
 use Prim.Native.Nat.{ℕ, zero, suc, ◌+◌, ◌-◌, ◌*◌, ◌≤◌, ◌<◌, ◌/◌}
 use mathlib.Core.Path.{◌≡◌, refl, ap, subst, sym, ◌∙◌}
-use mathlib.Core.Bool.{Bool, true, false}
-use mathlib.Core.List.{List, [], ◌∷◌, ◌++◌}
+use mathlib.Core.Bool.{true, false}
+use mathlib.Core.List.{List, [], ◌∷◌}
 use native.Mathlib.Omega.{arith}
 use native.Mathlib.Nat.{min-le_left, min-le_right, mul-div-le}
 use lib.ListN.{length, length-drop, take, drop, get_or}
 use lib.Seq.{sets, length-sets}
-use lib.Dec.{ltb}
 use borrow.Author.Tests.{lt-ltb, le-ltb, eq-eqb}
 use Rattle.definition.specs.Tape.{In, Row, State, Out, ok, refused, and_then, choose, guard, room, wrote_leaf, leaf_at, leaves_at, here_at, elements, capacity, start_of, leaves_len, node_over, wrote_node, close_at, flush_at, bump_at, triv}
-use Rattle.definition.specs.Prog.{Prog, mark, eval, flush, bump, close}
+use Rattle.definition.specs.Prog.{mark, eval, flush, bump, close}
 use Rattle.definition.specs.Parse.{run}
 use Rattle.definition.specs.Grammar.{grammar}
 use Rattle.laws.specs.Kept.{After}
@@ -19,7 +18,7 @@ use Rattle.laws.specs.Sizes.{total, total_next, Fits, FitsOn, fits, fits_leaf_at
 use Rattle.laws.specs.Looking.{skipped, skipped_le, skipped_ge, skipped_in, skipped_again}
 use Rattle.laws.specs.Moves.{leaves_last, flush_end}
 use Rattle.tape.specs.View.{in_of, rows_in, state_of, pick_out, out_of, Looks, Ready, Marked, Leaf, Step, Ran}
-use Rattle.tape.specs.Rows.{length_rows, rows_next, start_in, start_out}
+use Rattle.tape.specs.Rows.{length_rows, rows_next}
 use Rattle.tape.specs.Steps.{went_on, stopped, step_ok, step_no}
 use Rattle.tape.specs.declared.Tape.{Tape}
 

@@ -1,6 +1,5 @@
 -- `entry::begin` meets its contract: a tape that has written nothing is ready over any table.
 -- Assumes nothing.
-use borrow.Author.Rules.{rules}
 use Rattle.entry.specs.Whole.{starts}
 use Rattle.entry.proofs.begin.Goals as goal
 

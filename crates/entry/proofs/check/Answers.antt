@@ -1,9 +1,8 @@
 -- `entry::check` meets its contract: a law for each found, in their order, and one for an input that passes.
 -- Assumes nothing.
-use mathlib.Core.Path.{sym, ap, ◌∙◌}
+use mathlib.Core.Path.{ap}
 use mathlib.Core.Bool.{not}
 use native.Mathlib.Omega.{arith}
-use borrow.Author.Rules.{rules}
 use Rattle.definition.specs.Classes.{is_token}
 use Rattle.entry.specs.Input.{not_le, over_le, refuse_entry, refuse_pair, refuse_many, refuse_kind, refuse_total, admit}
 use Rattle.entry.proofs.check.Goals as goal

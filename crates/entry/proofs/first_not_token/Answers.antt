@@ -1,14 +1,9 @@
 -- `entry::first_not_token` meets its contract. The loop's invariant: the search from `at` on finds what the whole search does. The measure is what is
 -- left of the list.
 -- Assumes nothing.
-use Prim.Native.Nat.{◌+◌, ◌-◌}
-use mathlib.Core.Path.{◌≡◌, sym, ◌∙◌}
+use mathlib.Core.Path.{sym, ◌∙◌}
 use native.Mathlib.Omega.{arith}
-use lib.ListN.{length, drop}
-use borrow.Author.Rules.{rules}
-use borrow.Author.Tests.{not-true, not-false}
 use Rattle.definition.specs.Classes.{is_token}
-use Rattle.definition.specs.Parse.{first_not}
 use Rattle.entry.specs.Input.{not_go, not_stop, not_end}
 use Rattle.entry.proofs.first_not_token.Goals as goal
 

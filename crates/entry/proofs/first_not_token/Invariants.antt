@@ -2,14 +2,10 @@
 -- left of the list.
 -- Assumes nothing.
 use Prim.Native.Nat.{◌+◌, ◌-◌}
-use mathlib.Core.Path.{◌≡◌, sym, ◌∙◌}
-use native.Mathlib.Omega.{arith}
+use mathlib.Core.Path.{◌≡◌}
 use lib.ListN.{length, drop}
-use borrow.Author.Rules.{rules}
-use borrow.Author.Tests.{not-true, not-false}
 use Rattle.definition.specs.Classes.{is_token}
 use Rattle.definition.specs.Parse.{first_not}
-use Rattle.entry.specs.Input.{not_go, not_stop, not_end}
 use Rattle.entry.proofs.first_not_token.Given as goal
 
 abbrev pub invariant-loop-at : goal.invariant-loop-at

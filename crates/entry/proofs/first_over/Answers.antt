@@ -1,12 +1,8 @@
 -- `entry::first_over` meets its contract. The loop's invariant: the search from `i` on, with `left` for the rest, finds what the whole search does.
 -- The measure is what is left of the list.
 -- Assumes nothing.
-use Prim.Native.Nat.{◌+◌, ◌-◌}
-use mathlib.Core.Path.{◌≡◌, sym, ◌∙◌}
+use mathlib.Core.Path.{sym, ◌∙◌}
 use native.Mathlib.Omega.{arith}
-use lib.ListN.{length, drop}
-use borrow.Author.Rules.{rules}
-use Rattle.definition.specs.Parse.{first_over}
 use Rattle.entry.specs.Input.{over_go, over_stop, over_end}
 use Rattle.entry.proofs.first_over.Goals as goal
 

@@ -2,12 +2,9 @@
 -- The measure is what is left of the list.
 -- Assumes nothing.
 use Prim.Native.Nat.{◌+◌, ◌-◌}
-use mathlib.Core.Path.{◌≡◌, sym, ◌∙◌}
-use native.Mathlib.Omega.{arith}
+use mathlib.Core.Path.{◌≡◌}
 use lib.ListN.{length, drop}
-use borrow.Author.Rules.{rules}
 use Rattle.definition.specs.Parse.{first_over}
-use Rattle.entry.specs.Input.{over_go, over_stop, over_end}
 use Rattle.entry.proofs.first_over.Given as goal
 
 abbrev pub invariant-loop-i : goal.invariant-loop-i

@@ -1,7 +1,6 @@
 -- `entry::is_separator` meets its contract: above 127 no kind is a token's, and below the two classes decide.
 -- Assumes nothing.
 use mathlib.Core.Path.{sym}
-use borrow.Author.Rules.{rules}
 use Rattle.definition.specs.Parse.{is_entry}
 use Rattle.entry.specs.Input.{no_separator}
 use Rattle.entry.proofs.is_separator.Goals as goal

@@ -2,7 +2,6 @@
 -- Assumes nothing.
 use native.Mathlib.Omega.{arith}
 use Rattle.entry.specs.Table.{came_refused, came_tree}
-use borrow.Author.Rules.{rules}
 use Rattle.entry.proofs.outcome_of.Goals as goal
 
 pub returns-then-t-ne0 : goal.returns-then-t-ne0

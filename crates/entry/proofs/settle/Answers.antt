@@ -5,7 +5,6 @@ use mathlib.Core.Path.{refl, ap}
 use native.Mathlib.Omega.{arith}
 use Rattle.entry.specs.declared.Answer.{Answer}
 use Rattle.entry.specs.Table.{zeroed_at}
-use borrow.Author.Rules.{rules}
 use Rattle.entry.proofs.settle.Goals as goal
 
 pub zero_from-requires : goal.zero_from-requires

@@ -1,11 +1,8 @@
 -- `entry::zero_from` meets its contract. The loop's invariant: the elements from `from` to `i` are 0, and the others as they were. The measure is what is
 -- left of the table.
 -- Assumes nothing.
-use Prim.Native.Nat.{◌-◌}
 use native.Mathlib.Omega.{arith}
-use lib.ListN.{length}
-use borrow.Author.Rules.{rules}
-use Rattle.entry.specs.Table.{Zeroing, zeroing_start, zeroing_go, zeroing_end}
+use Rattle.entry.specs.Table.{zeroing_start, zeroing_go, zeroing_end}
 use Rattle.entry.proofs.zero_from.Goals as goal
 
 pub loop-i-init : goal.loop-i-init

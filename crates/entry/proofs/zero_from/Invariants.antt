@@ -2,10 +2,8 @@
 -- left of the table.
 -- Assumes nothing.
 use Prim.Native.Nat.{◌-◌}
-use native.Mathlib.Omega.{arith}
 use lib.ListN.{length}
-use borrow.Author.Rules.{rules}
-use Rattle.entry.specs.Table.{Zeroing, zeroing_start, zeroing_go, zeroing_end}
+use Rattle.entry.specs.Table.{Zeroing}
 use Rattle.entry.proofs.zero_from.Given as goal
 
 abbrev pub invariant-loop-i : goal.invariant-loop-i

@@ -1,28 +1,19 @@
 -- Assumes nothing.
-use Prim.Native.Nat.{zero, suc, ◌+◌, ◌-◌, ◌*◌, ◌≤◌, ◌<◌}
-use mathlib.Core.Path.{◌≡◌, refl, sym, ap, ◌∙◌}
-use mathlib.Core.Bool.{Bool, true, false}
+use mathlib.Core.Path.{refl, sym, ap, ◌∙◌}
+use mathlib.Core.Bool.{true, false}
 use mathlib.Core.Logic.{inl, inr}
 use native.Mathlib.Omega.{arith}
-use borrow.Author.Rules.{rules}
 use borrow.Author.Tests.{eq-eqb, ne_eqb}
-use Rattle.definition.specs.Classes.{is_path_component, kind_is_pat, is_pat_or_rest, is_use_part, is_select_arm}
-use Rattle.definition.specs.Modes.{Brace, Range}
-use Rattle.definition.specs.Prog.{mark, repeat}
+use Rattle.definition.specs.Classes.{kind_is_pat, is_select_arm}
 use Rattle.definition.specs.Grammar.{binary_turn, block, block_body, block_open, block_stmts, block_with, chain_link, chain_step, chain_turn, closure_arguments, condition, condition_init, condition_let, else_branch, else_branches, else_if, empty_group, expr_after, expr_binary, expr_binary_text, expr_chain, expr_for, expr_if, expr_if_any, expr_list, expr_loop, expr_match, expr_object, expr_primary, expr_range, expr_select, expr_tuple_or_group, expr_while, expr_with, fn_body, for_in, grammar, item_const, item_fn, item_impl, item_mod, items, local, match_arm, match_arms, match_case, match_list, nest, object_field, object_fields, operand, outer_binary, outer_expr_with, outer_expr_with_text, parenthesized, primary_path, range_rest, range_to, select_arm, select_arms, select_case, select_list, select_pat, stmt, stmt_expr, stmt_mod, stmt_once, stmt_text, tighter_turn, tuple_items, tuple_turn, while_turn}
-use Rattle.laws.specs.Progress.{bump_further, chain_step_further, else_branch_further, expr_further, match_case_further, nest_further, operator_further, select_case_further, stmt_further, path_component_some, use_path_some, object_key_some, glues_some, recovering_some}
-use Rattle.kinds.specs.Laws.{not_eof as none_eof, at_eof}
+use Rattle.laws.specs.Progress.{bump_further, else_branch_further, expr_further, match_case_further, select_case_further, stmt_further, object_key_some}
 use Rattle.tape.specs.declared.Tape.{Tape}
-use Rattle.tape.specs.View.{Step, Ran, said}
-use Rattle.tape.specs.Steps.{Loop, Onward, fuel, burns, here_few, marked_now, step_marked, held, held_now, followed, follows_len, not_key, both, cut, refusal, ends, if_yes, if_no, look, touch, spot, ask, ask_glued, ask_second, ask_second_as, scoped, unscoped, nothing, answered, answered_as, says, kept, refuses, refused_tape, inv_start, inv_again, inv_end, last, last_cut}
-use Rattle.tape.specs.Counted.{deep, entered, entered_bool, barred, goes_on, goes_some, goes_saw, goes_glued, and_on}
+use Rattle.tape.specs.Steps.{burns, here_few, marked_now, step_marked, held, held_now, followed, not_key, both, cut, refusal, ends, if_yes, if_no, look, touch, spot, ask, ask_glued, ask_second_as, scoped, unscoped, nothing, answered, says, kept, refuses, refused_tape, inv_start, inv_again, inv_end, last, last_cut}
+use Rattle.tape.specs.Counted.{deep, entered, entered_bool, barred, goes_on, goes_some, goes_glued, and_on}
 use Rattle.grammar.specs.Cuts.{outer_assign, outer_chain, outer_op, outer_rest, primary_last, primary_sign, primary_word, stmt_inner, stmt_kind, stmt_outer}
 use Rattle.grammar.specs.Idle.{looked_for, idle_op}
-use Rattle.grammar.specs.Looked.{Next, Small, looked, read_as}
-use Rattle.grammar.specs.Loops.{Binding, Tightening, operator_goes, nest_goes, chain_goes}
-use Rattle.kinds.specs.Modes.{brace_of, range_of, cx_of}
-use Rattle.kinds.specs.Ops.{op_of}
-use Prim.Native.Nat.{ℕ, ◌<◌}
+use Rattle.grammar.specs.Looked.{looked, read_as}
+use Rattle.grammar.specs.Loops.{operator_goes, nest_goes, chain_goes}
 use Rattle.grammar.proofs.+grammar.Goals as goal
 
 pub a-peek-requires : goal.a-peek-requires

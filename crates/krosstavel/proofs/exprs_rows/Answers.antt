@@ -5,7 +5,6 @@ use Rattle.entry.specs.Whole.{entry_refused, entry_parsed, counted}
 use Rattle.krosstavel.specs.Starting.{marked_start, limit_few, checked_valid, fine, treated_some}
 use mathlib.Core.Path.{sym, ◌∙◌}
 use native.Mathlib.Omega.{arith}
-use borrow.Author.Rules.{rules}
 use Rattle.krosstavel.proofs.exprs_rows.Goals as goal
 
 pub returns-then-f-ne0 : goal.returns-then-f-ne0

@@ -2,7 +2,6 @@
 -- Assumes nothing.
 use native.Mathlib.Omega.{arith}
 use Rattle.entry.specs.Table.{settled}
-use borrow.Author.Rules.{rules}
 use Rattle.krosstavel.proofs.format.Goals as goal
 
 pub settle-requires : goal.settle-requires

@@ -1,9 +1,8 @@
 -- Written by tools/walk.py from the code and its program; docs/CONTRIBUTING.md says how.
 -- Assumes nothing.
-use Rattle.definition.specs.Parse.{root, program, is_limit}
+use Rattle.definition.specs.Parse.{root, program}
 use Rattle.entry.specs.Whole.{entry_refused, entry_parsed, counted}
 use Rattle.krosstavel.specs.Starting.{marked_start, limit_few, valid_root}
-use borrow.Author.Rules.{rules}
 use Rattle.krosstavel.proofs.root_rows.Goals as goal
 
 pub returns-then-f-ne0 : goal.returns-then-f-ne0

@@ -1,6 +1,5 @@
 -- `night::end` meets its contract: `zero_from` clears what is behind the rows, and `counted` says how many there are.
 -- Assumes nothing.
-use borrow.Author.Rules.{rules}
 use Rattle.night.proofs.end.Goals as goal
 
 pub returns : goal.returns

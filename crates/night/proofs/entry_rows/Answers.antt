@@ -1,7 +1,6 @@
 -- `night::entry_rows` meets its contract: each number's entry.
 -- Assumes nothing.
 use Rattle.night.specs.Steps.{entry_root, entry_exprs, entry_format}
-use borrow.Author.Rules.{rules}
 use Rattle.night.proofs.entry_rows.Goals as goal
 
 pub returns-then-entry-eq0 : goal.returns-then-entry-eq0

@@ -3,7 +3,6 @@
 use Rattle.std.proofs.Common.{ap, arith}
 use mathlib.Core.Bool.{not}
 use Rattle.night.specs.Steps.{inside_ends, outside, parsed}
-use borrow.Author.Rules.{rules}
 use Rattle.night.proofs.job_rows.Goals as goal
 
 pub returns-then-not-is_inside : goal.returns-then-not-is_inside

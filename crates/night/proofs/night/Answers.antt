@@ -1,7 +1,6 @@
 -- `night::night` meets its contract, by the laws of a round.
 -- Assumes nothing.
-use Rattle.std.proofs.Common.{arith}
-use Rattle.night.specs.Rounds.{begins, round_inside, may_run, goes_on, may_end, ends, rows_inside}
+use Rattle.night.specs.Rounds.{begins, may_run, goes_on, may_end, ends}
 use Rattle.night.proofs.night.Goals as goal
 
 pub loop-i-init : goal.loop-i-init

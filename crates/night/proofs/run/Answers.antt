@@ -2,7 +2,6 @@
 -- Assumes nothing.
 use Prim.Native.Nat.{◌*◌}
 use Rattle.night.specs.Steps.{free_length, done}
-use borrow.Author.Rules.{rules}
 use Rattle.night.proofs.run.Goals as goal
 
 pub returns : goal.returns

@@ -1,9 +1,8 @@
-
 use Rattle.definition.specs.Tape.{capacity}
 use native.Mathlib.Nat.{min-eq_left, min-eq_right}
 use native.Mathlib.Omega.{arith}
-use mathlib.Core.Path.{◌≡◌, refl, sym, ap, ◌∙◌}
-use Prim.Native.Nat.{ℕ, zero, suc, ◌+◌, ◌-◌, ◌*◌, ◌≤◌, ◌<◌, ◌/◌}
+use mathlib.Core.Path.{sym}
+use Prim.Native.Nat.{◌/◌}
 use Rattle.tape.proofs.capacity.Goals as goal
 
 pub returns-then-rows-lt4294967295 : goal.returns-then-rows-lt4294967295

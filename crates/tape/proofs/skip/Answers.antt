@@ -1,11 +1,6 @@
-
-use Rattle.laws.specs.Looking.{skipped, skipped_go, skipped_stop, skipped_end}
-use borrow.Author.Tests.{not-true, not-false}
-use lib.ListN.{length, drop, get_or, get_or-eq_default}
-use borrow.Author.Rules.{rules}
+use Rattle.laws.specs.Looking.{skipped_go, skipped_stop, skipped_end}
 use native.Mathlib.Omega.{arith}
-use mathlib.Core.Path.{◌≡◌, refl, sym, ap, ◌∙◌}
-use Prim.Native.Nat.{ℕ, zero, suc, ◌+◌, ◌-◌, ◌*◌, ◌≤◌, ◌<◌, ◌/◌}
+use mathlib.Core.Path.{refl, sym, ◌∙◌}
 use Rattle.tape.proofs.skip.Goals as goal
 
 pub loop-j-init : goal.loop-j-init

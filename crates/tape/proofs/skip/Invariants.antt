@@ -1,11 +1,7 @@
-
-use Rattle.laws.specs.Looking.{skipped, skipped_go, skipped_stop, skipped_end}
-use borrow.Author.Tests.{not-true, not-false}
-use lib.ListN.{length, drop, get_or, get_or-eq_default}
-use borrow.Author.Rules.{rules}
-use native.Mathlib.Omega.{arith}
-use mathlib.Core.Path.{◌≡◌, refl, sym, ap, ◌∙◌}
-use Prim.Native.Nat.{ℕ, zero, suc, ◌+◌, ◌-◌, ◌*◌, ◌≤◌, ◌<◌, ◌/◌}
+use Rattle.laws.specs.Looking.{skipped}
+use lib.ListN.{length}
+use mathlib.Core.Path.{◌≡◌}
+use Prim.Native.Nat.{◌-◌}
 use Rattle.tape.proofs.skip.Given as goal
 
 abbrev pub invariant-loop-j : goal.invariant-loop-j

@@ -1,9 +1,6 @@
-
 use Rattle.tape.specs.Rows.{start_in, start_out}
 use native.Mathlib.Omega.{arith}
-use mathlib.Core.Path.{◌≡◌, refl, sym, ap, ◌∙◌}
-use Prim.Native.Nat.{ℕ, zero, suc, ◌+◌, ◌-◌, ◌*◌, ◌≤◌, ◌<◌, ◌/◌}
-use borrow.Author.Rules.{rules}
+use mathlib.Core.Path.{sym}
 use Rattle.tape.proofs.start_of.Goals as goal
 
 pub returns-then-m-rows : goal.returns-then-m-rows

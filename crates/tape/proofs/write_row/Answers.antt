@@ -1,10 +1,6 @@
-
 use lib.ListN.{length-set}
-use native.Mathlib.Numerals.{add-one, towards_suc}
+use native.Mathlib.Numerals.{towards_suc}
 use native.Mathlib.Omega.{arith}
-use mathlib.Core.Path.{◌≡◌, refl, sym, ap, ◌∙◌}
-use Prim.Native.Nat.{ℕ, zero, suc, ◌+◌, ◌-◌, ◌*◌, ◌≤◌, ◌<◌, ◌/◌}
-use borrow.Author.Rules.{rules}
 use Rattle.tape.proofs.write_row.Goals as goal
 
 pub bounds-table-rows-2 : goal.bounds-table-rows-2

@@ -1,7 +1,6 @@
 -- Written by tools/walk.py from the code and its program; docs/CONTRIBUTING.md says how.
 -- Assumes nothing.
 use Rattle.grammar.specs.Idle.{looks_once}
-use borrow.Author.Rules.{rules}
 use Rattle.grammar.proofs.steps.operators_next.Goals as goal
 
 pub returns : goal.returns

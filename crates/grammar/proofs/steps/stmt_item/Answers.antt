@@ -1,10 +1,8 @@
 -- Written by tools/walk.py from the code and its program; docs/CONTRIBUTING.md says how.
 -- Assumes nothing.
 use mathlib.Core.Path.{refl}
-use Rattle.tape.specs.View.{Follows}
 use Rattle.tape.specs.Steps.{both, cut, answered}
 use Rattle.definition.specs.Grammar.{stmt_item}
-use borrow.Author.Rules.{rules}
 use Rattle.grammar.proofs.steps.stmt_item.Goals as goal
 
 pub returns-then-tape-ne0 : goal.returns-then-tape-ne0

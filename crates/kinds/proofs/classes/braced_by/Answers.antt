@@ -1,6 +1,5 @@
 -- `kinds::classes::braced_by` meets its contract: it is the definition's own test, of what `is_brace` answers.
 -- Assumes nothing.
-use borrow.Author.Rules.{rules}
 use Rattle.definition.specs.Classes.{braced_by}
 use Rattle.kinds.proofs.classes.braced_by.Goals as goal
 

@@ -1,6 +1,5 @@
 -- `kinds::classes::is_pat_or_rest` meets its contract, by what `is_pat` ensures.
 -- Assumes nothing.
-use borrow.Author.Rules.{rules}
 use Rattle.definition.specs.Classes.{is_pat_or_rest}
 use Rattle.kinds.proofs.classes.is_pat_or_rest.Goals as goal
 

@@ -1,6 +1,5 @@
 -- `kinds::classes::is_select_arm` meets its contract, by what `is_pat` ensures.
 -- Assumes nothing.
-use borrow.Author.Rules.{rules}
 use Rattle.definition.specs.Classes.{is_select_arm}
 use Rattle.kinds.proofs.classes.is_select_arm.Goals as goal
 

@@ -1,6 +1,5 @@
 -- `kinds::classes::linked` meets its contract: it is the definition's own test, of what `kind_is_callable` answers.
 -- Assumes nothing.
-use borrow.Author.Rules.{rules}
 use Rattle.definition.specs.Classes.{linked}
 use Rattle.kinds.proofs.classes.linked.Goals as goal
 

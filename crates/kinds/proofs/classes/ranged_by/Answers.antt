@@ -1,6 +1,5 @@
 -- `kinds::classes::ranged_by` meets its contract: it is the definition's own test, of what `is_ranged` answers.
 -- Assumes nothing.
-use borrow.Author.Rules.{rules}
 use Rattle.definition.specs.Classes.{ranged_by}
 use Rattle.kinds.proofs.classes.ranged_by.Goals as goal
 

@@ -1,6 +1,5 @@
 -- `kinds::operators::clashes` meets its contract, by what `is_associative` ensures.
 -- Assumes nothing.
-use borrow.Author.Rules.{rules}
 use Rattle.definition.specs.Operators.{clashes}
 use Rattle.kinds.proofs.operators.clashes.Goals as goal
 

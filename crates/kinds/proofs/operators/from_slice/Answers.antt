@@ -1,6 +1,5 @@
 -- `kinds::operators::from_slice` meets its contract, by what `binding_of` and `tokens_of` ensure.
 -- Assumes nothing.
-use borrow.Author.Rules.{rules}
 use Rattle.definition.specs.Operators.{from_slice}
 use Rattle.kinds.proofs.operators.from_slice.Goals as goal
 

@@ -1,21 +1,14 @@
 -- Assumes nothing.
-use Prim.Native.Nat.{zero, suc, ◌+◌, ◌-◌, ◌*◌, ◌≤◌, ◌<◌}
-use mathlib.Core.Path.{◌≡◌, refl, sym, ap, ◌∙◌}
-use mathlib.Core.Bool.{Bool, true, false}
-use mathlib.Core.Logic.{inl, inr}
+use mathlib.Core.Path.{sym, ◌∙◌}
 use native.Mathlib.Omega.{arith}
-use borrow.Author.Rules.{rules}
 use borrow.Author.Tests.{eq-eqb, ne_eqb}
-use Rattle.definition.specs.Classes.{is_path_component, kind_is_pat, is_pat_or_rest, is_use_part, is_select_arm}
+use Rattle.definition.specs.Classes.{is_use_part}
 use Rattle.definition.specs.Modes.{Brace, Range}
-use Rattle.definition.specs.Prog.{mark, repeat}
 use Rattle.definition.specs.Grammar.{grammar, item_use, item_use_text, item_use_turn, use_group, use_item, use_parts, use_path, use_paths, while_turn}
-use Rattle.laws.specs.Progress.{bump_further, use_group_further, use_path_further, path_component_some, use_path_some, object_key_some, glues_some, recovering_some}
+use Rattle.laws.specs.Progress.{bump_further, use_group_further, use_path_further, use_path_some}
 use Rattle.kinds.specs.Laws.{not_eof as none_eof, at_eof}
-use Rattle.tape.specs.View.{Step, Ran, said}
-use Rattle.tape.specs.Steps.{Loop, Onward, fuel, burns, here_few, marked_now, step_marked, held, held_now, followed, follows_len, not_key, both, cut, refusal, ends, if_yes, if_no, look, touch, spot, ask, ask_glued, ask_second, ask_second_as, scoped, unscoped, nothing, answered, answered_as, says, kept, refuses, refused_tape, inv_start, inv_again, inv_end, last, last_cut}
-use Rattle.tape.specs.Counted.{deep, entered, entered_bool, barred, goes_on, goes_some, goes_saw, goes_glued, and_on}
-use Prim.Native.Nat.{ℕ, ◌<◌}
+use Rattle.tape.specs.Steps.{burns, here_few, marked_now, step_marked, both, cut, ends, if_yes, if_no, look, ask, scoped, unscoped, nothing, inv_start, inv_again, inv_end, last, last_cut}
+use Rattle.tape.specs.Counted.{deep, entered, barred, goes_some, and_on}
 use Rattle.pieces.proofs.items.+uses.Goals as goal
 
 pub item_use-refuse-requires : goal.item_use-refuse-requires

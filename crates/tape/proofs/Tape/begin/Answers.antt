@@ -1,9 +1,6 @@
-
 use Rattle.laws.specs.Looking.{skipped_le}
 use native.Mathlib.Omega.{arith}
-use mathlib.Core.Path.{◌≡◌, refl, sym, ap, ◌∙◌}
-use Prim.Native.Nat.{ℕ, zero, suc, ◌+◌, ◌-◌, ◌*◌, ◌≤◌, ◌<◌, ◌/◌}
-use borrow.Author.Rules.{rules}
+use mathlib.Core.Path.{refl}
 use Rattle.tape.proofs.Tape.begin.Goals as goal
 
 pub overflow_add-next : goal.overflow_add-next

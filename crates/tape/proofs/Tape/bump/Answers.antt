@@ -1,10 +1,8 @@
-
 use Rattle.laws.specs.Looking.{skipped_le}
 use Rattle.tape.proofs.Writes.{bump_cut, bump_none, bump_full, bump_done, flushed_at}
 use native.Mathlib.Omega.{arith}
-use mathlib.Core.Path.{◌≡◌, refl, sym, ap, ◌∙◌}
-use Prim.Native.Nat.{ℕ, zero, suc, ◌+◌, ◌-◌, ◌*◌, ◌≤◌, ◌<◌, ◌/◌}
-use borrow.Author.Rules.{rules}
+use mathlib.Core.Path.{ap, ◌∙◌}
+use Prim.Native.Nat.{ℕ, ◌+◌}
 use Rattle.tape.proofs.Tape.bump.Goals as goal
 
 pub flush_ws-t-requires : goal.flush_ws-t-requires

@@ -1,12 +1,6 @@
-
 use Rattle.definition.specs.Grammar.{bump_if}
-use Rattle.tape.specs.Steps.{Loop, Onward, fuel, burns, marked_now, step_marked, both, cut, if_yes, if_no, ask, scoped, unscoped, nothing, answered, ready_answer, answer, ends, inv_start, inv_again, inv_end, last, last_cut, bumped}
-use Rattle.tape.specs.View.{Step, Ran, said}
+use Rattle.tape.specs.Steps.{both, cut, if_yes, if_no, ask, answered}
 use borrow.Author.Tests.{eq-eqb, ne_eqb}
-use native.Mathlib.Omega.{arith}
-use mathlib.Core.Path.{◌≡◌, refl, sym, ap, ◌∙◌}
-use Prim.Native.Nat.{ℕ, zero, suc, ◌+◌, ◌-◌, ◌*◌, ◌≤◌, ◌<◌, ◌/◌}
-use borrow.Author.Rules.{rules}
 use Rattle.tape.proofs.Tape.bump_if.Goals as goal
 
 pub peek-requires : goal.peek-requires

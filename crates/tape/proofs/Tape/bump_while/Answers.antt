@@ -1,13 +1,8 @@
-
 use Rattle.definition.specs.Grammar.{bump_while, bump_while_turn}
-use Rattle.definition.specs.Prog.{repeat}
-use mathlib.Core.Logic.{inl, inr}
-use Rattle.tape.specs.Steps.{Loop, Onward, fuel, burns, marked_now, step_marked, both, cut, if_yes, if_no, ask, scoped, unscoped, nothing, answered, ready_answer, answer, unanswered, ends, inv_start, inv_again, inv_end, last, last_cut, bumped}
-use Rattle.tape.specs.View.{Step, Ran, said}
+use Rattle.tape.specs.Steps.{burns, both, cut, if_yes, if_no, ask, nothing, answered, ready_answer, unanswered, inv_start, inv_again, inv_end, last, last_cut, bumped}
 use borrow.Author.Tests.{eq-eqb, ne_eqb}
 use native.Mathlib.Omega.{arith}
-use mathlib.Core.Path.{◌≡◌, refl, sym, ap, ◌∙◌}
-use Prim.Native.Nat.{ℕ, zero, suc, ◌+◌, ◌-◌, ◌*◌, ◌≤◌, ◌<◌, ◌/◌}
+use mathlib.Core.Path.{◌∙◌}
 use Rattle.tape.proofs.Tape.bump_while.Goals as goal
 
 pub loop-table-init : goal.loop-table-init

@@ -1,12 +1,9 @@
-
 use Rattle.tape.specs.Rows.{length_rows}
 use Rattle.laws.specs.Looking.{skipped_le}
 use lib.ListN.{length}
-use Rattle.tape.proofs.Writes.{cap_four, cap_few, in_table, rows_in_table, close_wrote, close_full, Flushing, flushing_start, flushing_in, flushing_go, flushing_stop, flushing_end}
+use Rattle.tape.proofs.Writes.{cap_few, in_table, rows_in_table, close_wrote, close_full}
 use native.Mathlib.Omega.{arith}
-use mathlib.Core.Path.{◌≡◌, refl, sym, ap, ◌∙◌}
-use Prim.Native.Nat.{ℕ, zero, suc, ◌+◌, ◌-◌, ◌*◌, ◌≤◌, ◌<◌, ◌/◌}
-use borrow.Author.Rules.{rules}
+use mathlib.Core.Path.{refl}
 use Rattle.tape.proofs.Tape.close_at.Goals as goal
 
 pub start_of-start-requires : goal.start_of-start-requires

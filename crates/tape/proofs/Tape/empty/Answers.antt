@@ -1,12 +1,6 @@
-
 use Rattle.definition.specs.Grammar.{empty}
-use Rattle.tape.specs.Steps.{Loop, Onward, fuel, burns, marked_now, step_marked, both, cut, if_yes, if_no, ask, scoped, unscoped, nothing, answered, ready_answer, answer, ends, inv_start, inv_again, inv_end, last, last_cut, bumped}
-use Rattle.tape.specs.View.{Step, Ran, said}
-use borrow.Author.Tests.{eq-eqb, ne_eqb}
-use native.Mathlib.Omega.{arith}
-use mathlib.Core.Path.{◌≡◌, refl, sym, ap, ◌∙◌}
-use Prim.Native.Nat.{ℕ, zero, suc, ◌+◌, ◌-◌, ◌*◌, ◌≤◌, ◌<◌, ◌/◌}
-use borrow.Author.Rules.{rules}
+use Rattle.tape.specs.Steps.{marked_now, scoped, unscoped}
+use mathlib.Core.Path.{◌∙◌}
 use Rattle.tape.proofs.Tape.empty.Goals as goal
 
 pub mark-t-requires : goal.mark-t-requires

@@ -1,8 +1,6 @@
-
-use Rattle.tape.proofs.Writes.{cap_four, cap_few, in_table, rows_in_table, close_wrote, close_full, Flushing, flushing_start, flushing_in, flushing_go, flushing_stop, flushing_end}
+use Rattle.tape.proofs.Writes.{flushing_start, flushing_in, flushing_go, flushing_stop, flushing_end}
 use native.Mathlib.Omega.{arith}
-use mathlib.Core.Path.{◌≡◌, refl, sym, ap, ◌∙◌}
-use Prim.Native.Nat.{ℕ, zero, suc, ◌+◌, ◌-◌, ◌*◌, ◌≤◌, ◌<◌, ◌/◌}
+use mathlib.Core.Path.{◌∙◌}
 use Rattle.tape.proofs.Tape.flush_ws.Goals as goal
 
 pub loop-t-init : goal.loop-t-init

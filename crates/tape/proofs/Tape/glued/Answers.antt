@@ -1,12 +1,10 @@
-
 use Rattle.definition.specs.Tape.{glued_kind}
 use Rattle.definition.specs.Classes.{treated}
-use Rattle.laws.specs.Looking.{skipped, next_at, later_at, glued_apart, glued_next, glued_end, skipped_le}
-use lib.ListN.{length, drop, get_or, get_or-eq_default}
+use Rattle.laws.specs.Looking.{skipped, glued_apart, glued_next, glued_end, skipped_le}
+use lib.ListN.{get_or}
 use native.Mathlib.Omega.{arith}
-use mathlib.Core.Path.{◌≡◌, refl, sym, ap, ◌∙◌}
-use Prim.Native.Nat.{ℕ, zero, suc, ◌+◌, ◌-◌, ◌*◌, ◌≤◌, ◌<◌, ◌/◌}
-use borrow.Author.Rules.{rules}
+use mathlib.Core.Path.{◌≡◌, sym, ap, ◌∙◌}
+use Prim.Native.Nat.{ℕ, ◌+◌}
 use Rattle.tape.proofs.Tape.glued.Goals as goal
 
 pub overflow_add-self : goal.overflow_add-self

@@ -1,10 +1,7 @@
-
 use Rattle.laws.specs.Looking.{skipped_le}
-use Rattle.tape.proofs.Writes.{cap_four, cap_few, in_table, rows_in_table, byte_fits, leaf_wrote, leaf_full}
+use Rattle.tape.proofs.Writes.{in_table, byte_fits, leaf_wrote, leaf_full}
 use native.Mathlib.Omega.{arith}
-use mathlib.Core.Path.{◌≡◌, refl, sym, ap, ◌∙◌}
-use Prim.Native.Nat.{ℕ, zero, suc, ◌+◌, ◌-◌, ◌*◌, ◌≤◌, ◌<◌, ◌/◌}
-use borrow.Author.Rules.{rules}
+use mathlib.Core.Path.{refl}
 use Rattle.tape.proofs.Tape.leaf.Goals as goal
 
 pub overflow_cast-kinds : goal.overflow_cast-kinds

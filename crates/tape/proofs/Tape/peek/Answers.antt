@@ -1,11 +1,9 @@
-
 use Rattle.definition.specs.Classes.{among, is_assigned, treated}
-use Rattle.laws.specs.Looking.{skipped, next_at, later_at, glued_apart, glued_next, glued_end}
-use lib.ListN.{length, drop, get_or, get_or-eq_default}
+use Rattle.laws.specs.Looking.{next_at}
+use lib.ListN.{get_or, get_or-eq_default}
 use native.Mathlib.Omega.{arith}
-use mathlib.Core.Path.{◌≡◌, refl, sym, ap, ◌∙◌}
-use Prim.Native.Nat.{ℕ, zero, suc, ◌+◌, ◌-◌, ◌*◌, ◌≤◌, ◌<◌, ◌/◌}
-use borrow.Author.Rules.{rules}
+use mathlib.Core.Path.{◌≡◌, sym, ap, ◌∙◌}
+use Prim.Native.Nat.{ℕ}
 use Rattle.tape.proofs.Tape.peek.Goals as goal
 
 pub returns-then-next-kinds : goal.returns-then-next-kinds

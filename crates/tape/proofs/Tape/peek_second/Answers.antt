@@ -1,12 +1,10 @@
-
 use Rattle.definition.specs.Tape.{nth_kind}
 use Rattle.definition.specs.Classes.{among, is_assigned, treated}
-use Rattle.laws.specs.Looking.{skipped, next_at, later_at, glued_apart, glued_next, glued_end}
-use lib.ListN.{length, drop, get_or, get_or-eq_default}
+use Rattle.laws.specs.Looking.{next_at, later_at}
+use lib.ListN.{drop, get_or, get_or-eq_default}
 use native.Mathlib.Omega.{arith}
-use mathlib.Core.Path.{◌≡◌, refl, sym, ap, ◌∙◌}
-use Prim.Native.Nat.{ℕ, zero, suc, ◌+◌, ◌-◌, ◌*◌, ◌≤◌, ◌<◌, ◌/◌}
-use borrow.Author.Rules.{rules}
+use mathlib.Core.Path.{◌≡◌, sym, ap, ◌∙◌}
+use Prim.Native.Nat.{ℕ, ◌+◌}
 use Rattle.tape.proofs.Tape.peek_second.Goals as goal
 
 pub returns-then-second-kinds : goal.returns-then-second-kinds

@@ -1,5 +1,3 @@
-
-use borrow.Author.Rules.{rules}
 use Rattle.tape.proofs.Tape.say.Goals as goal
 
 pub returns-then-yes : goal.returns-then-yes
