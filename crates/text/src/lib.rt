@@ -24,6 +24,7 @@ pub enum Listed {
 }
 
 // One digit more of a number that fits 32 bits.
+#[tactic(auto, unfolding(crate::specs::Line::longer))]
 fn digit(n: usize, value: u32, byte: u8) -> Reading
     ensures { result ≡ longer n value byte }
 {
@@ -52,6 +53,7 @@ fn keep(out: &mut [u32], n: usize, value: u32) -> bool
 }
 
 // One byte more of a line. A number is stored once the space behind it is read.
+#[tactic(auto, unfolding(crate::specs::Line::stepped, crate::specs::Line::stored, crate::specs::Line::kept))]
 pub fn step(r: Reading, out: &mut [u32], byte: u8) -> Reading
     ensures { (result ≡ stepped r (length out.old) byte) × (out.new ≡ stored r out.old byte) }
 {
@@ -71,6 +73,7 @@ pub fn step(r: Reading, out: &mut [u32], byte: u8) -> Reading
 }
 
 // The line's end, which stores its last number.
+#[tactic(auto, unfolding(crate::specs::Line::ended, crate::specs::Line::kept))]
 pub fn end(r: Reading, out: &mut [u32]) -> Listed
     ensures { (result ≡ ended r (length out.old)) × (out.new ≡ kept r out.old) }
 {
