@@ -3,12 +3,15 @@
 #![tactic(auto)]
 
 mod names;
+mod scan;
 mod tree;
 
 ghost use Rattle.std.specs.Prelude.{◌≡◌, length};
 
-use libc::{STDIN_FILENO, STDOUT_FILENO};
-use text::Listed;
+use scan::find;
+use std::io::Write;
+use std::{fs, io};
+use text::{Listed, read_full};
 use tree::print;
 
 // What `exprs` separates expressions by, and the deepest limit.
@@ -16,40 +19,43 @@ const COMMA: u32 = 24;
 
 const DEEPEST: u32 = 256;
 
-fn refused(number: u32, place: u32) {
-    io::write_all(STDOUT_FILENO, b"refused with ");
-    io::print_decimal(STDOUT_FILENO, number as u64);
-    io::write_all(STDOUT_FILENO, b" at token ");
-    io::print_decimal(STDOUT_FILENO, place as u64);
-    io::write_all(STDOUT_FILENO, b"\n");
+fn refused<W: Write>(out: &mut W, number: u32, place: u32) -> io::Result<()> {
+    writeln!(out, "refused with {number} at token {place}")
 }
 
 // The parser's answer: its tree, or its refusal.
-fn parse(text: &[u8], kinds: &[u8], lens: &[u32], table: &mut [u32], names: &[u8]) {
+fn parse<W: Write>(
+    out: &mut W,
+    text: &[u8],
+    kinds: &[u8],
+    lens: &[u32],
+    table: &mut [u32],
+    names: &[u8],
+) -> io::Result<()> {
     let a = exports::krosstavel_exprs(kinds, lens, table, COMMA, DEEPEST);
     if a.number != 0 {
-        refused(a.number, a.place);
-        return;
+        return refused(out, a.number, a.place);
     }
-    print(table, a.rows as usize, text, names);
+    print(out, table, a.rows as usize, text, names)
 }
 
-fn no_guard() {
-    io::write_all(
-        STDOUT_FILENO,
-        b"no guard: three lines are wanted, its text, its tokens' kinds and their lengths\n",
-    );
+fn no_guard<W: Write>(out: &mut W) -> io::Result<()> {
+    writeln!(
+        out,
+        "no guard: three lines are wanted, its text, its tokens' kinds and their lengths"
+    )
 }
 
-fn no_list() {
-    io::write_all(
-        STDOUT_FILENO,
-        b"no guard: its tokens' kinds and their lengths are decimal numbers with one space between two\n",
-    );
+fn no_list<W: Write>(out: &mut W) -> io::Result<()> {
+    writeln!(
+        out,
+        "no guard: its tokens' kinds and their lengths are decimal numbers with one space between two"
+    )
 }
 
 // The guard's tokens, from their two lines, and its tree. (`lens` is lent for the kinds' numbers first.)
-fn tokens(
+fn tokens<W: Write>(
+    out: &mut W,
     text: &[u8],
     kind_line: &[u8],
     length_line: &[u8],
@@ -57,39 +63,42 @@ fn tokens(
     kinds: &mut [u8],
     lens: &mut [u32],
     table: &mut [u32],
-) {
+) -> io::Result<()> {
     let Listed::Numbers(n) = text::numbers(kind_line, lens) else {
-        no_list();
-        return;
+        return no_list(out);
     };
     if !text::narrow(&lens[..n], kinds) {
-        no_list();
-        return;
+        return no_list(out);
     }
     let Listed::Numbers(m) = text::numbers(length_line, lens) else {
-        no_list();
-        return;
+        return no_list(out);
     };
-    parse(text, &kinds[..n], &lens[..m], table, names);
+    parse(out, text, &kinds[..n], &lens[..m], table, names)
 }
 
 // The input's three lines, taken apart.
-fn guard(input: &[u8], names: &[u8], kinds: &mut [u8], lens: &mut [u32], table: &mut [u32]) {
+fn guard<W: Write>(
+    out: &mut W,
+    input: &[u8],
+    names: &[u8],
+    kinds: &mut [u8],
+    lens: &mut [u32],
+    table: &mut [u32],
+) -> io::Result<()> {
     let end = input.len();
-    let a = bytes::scan::find(input, 0, end, b'\n');
+    let a = find(input, 0, end, b'\n');
     if a == end {
-        no_guard();
-        return;
+        return no_guard(out);
     }
     let second = a + 1;
-    let b = bytes::scan::find(input, second, end, b'\n');
+    let b = find(input, second, end, b'\n');
     if b == end {
-        no_guard();
-        return;
+        return no_guard(out);
     }
     let third = b + 1;
-    let c = bytes::scan::find(input, third, end, b'\n');
+    let c = find(input, third, end, b'\n');
     tokens(
+        out,
         &input[..a],
         &input[second..b],
         &input[third..c],
@@ -97,7 +106,7 @@ fn guard(input: &[u8], names: &[u8], kinds: &mut [u8], lens: &mut [u32], table: 
         kinds,
         lens,
         table,
-    );
+    )
 }
 
 // Room for lengths and for a table. (The contract tells the length alone, which is all that lending it needs.)
@@ -107,19 +116,24 @@ fn room() -> [u32; 8192]
     [0; 8192]
 }
 
-fn main() {
-    let mut names = io::buffer();
-    let mut input = io::buffer();
-    let mut kinds = io::buffer();
+fn main(rt: HostRuntime) -> io::Result<()> {
+    let mut names = [0u8; 4096];
+    let mut input = [0u8; 4096];
+    let mut kinds = [0u8; 4096];
     let mut lens = room();
     let mut table = room();
-    let fd = os::open_read(b"kinds");
-    if fd < 0 {
-        os::fail(b"kinds");
-        return;
-    }
-    let k = io::read_full(fd, &mut names);
-    libc::close(fd);
-    let n = io::read_full(STDIN_FILENO, &mut input);
-    guard(&input[..n], &names[..k], &mut kinds, &mut lens, &mut table);
+    let mut file = match fs::open(&rt, "kinds") {
+        Ok(file) => file,
+        Err(e) => return eprintln!(rt; "kinds: {e}"),
+    };
+    let k = read_full(&mut file, &mut names)?;
+    let n = read_full(&mut rt.stdin(), &mut input)?;
+    guard(
+        &mut rt.stdout(),
+        &input[..n],
+        &names[..k],
+        &mut kinds,
+        &mut lens,
+        &mut table,
+    )
 }

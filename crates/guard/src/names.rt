@@ -2,7 +2,9 @@
 ghost use Rattle.std.specs.Prelude.{◌≡◌, ◌≤◌, length};
 ghost use Rattle.guard.specs.Names.{is_number};
 
-use libc::STDOUT_FILENO;
+use crate::scan::find;
+use std::io;
+use std::io::Write;
 use text::Listed;
 
 // Part of a list, from here up to there.
@@ -13,6 +15,7 @@ struct Part {
 }
 
 // Whether a text is this number, in decimal.
+#[tactic(auto, unfolding(crate::specs::Names::is_number))]
 fn is_number(text: &[u8], number: u32) -> bool
     ensures { result ≡ is_number text.now number }
 {
@@ -32,8 +35,8 @@ fn name(names: &[u8], kind: u32) -> Part
 {
     let mut at = 0;
     while at < names.len() {
-        let end = bytes::scan::find(names, at, names.len(), b'\n');
-        let space = bytes::scan::find(names, at, end, b' ');
+        let end = find(names, at, names.len(), b'\n');
+        let space = find(names, at, end, b' ');
         if space < end {
             if is_number(&names[at..space], kind) {
                 return Part {
@@ -51,13 +54,12 @@ fn name(names: &[u8], kind: u32) -> Part
 }
 
 // A kind's name, or its number where the list has none.
-pub fn print_name(names: &[u8], kind: u32) {
+pub fn print_name<W: Write>(out: &mut W, names: &[u8], kind: u32) -> io::Result<()> {
     let p = name(names, kind);
     let from = p.from;
     let to = p.to;
     if from == to {
-        io::print_decimal(STDOUT_FILENO, kind as u64);
-        return;
+        return write!(out, "{kind}");
     }
-    io::write_all(STDOUT_FILENO, &names[from..to]);
+    out.write_all(&names[from..to])
 }

@@ -3,7 +3,8 @@ ghost use Rattle.std.specs.Prelude.{◌≡◌, ◌+◌, ◌-◌, ◌*◌, ◌≤
 ghost use Rattle.guard.specs.Tree.{first_of, depth_of};
 
 use crate::names::print_name;
-use libc::STDOUT_FILENO;
+use std::io;
+use std::io::Write;
 
 // Where a row's subtree starts: the number of its first row.
 fn first(table: &[u32], row: usize) -> usize
@@ -33,64 +34,83 @@ fn depth(table: &[u32], rows: usize, row: usize) -> usize
     deep
 }
 
-fn indent(deep: usize) {
-    let mut i = 0;
-    while i < deep {
-        io::write_all(STDOUT_FILENO, b"  ");
-        i += 1;
+fn indent<W: Write>(out: &mut W, deep: usize) -> io::Result<()> {
+    for _ in 0..deep {
+        out.write_all(b"  ")?;
     }
+    Ok(())
 }
 
 // A leaf's own text.
-fn print_text(text: &[u8], start: u32, len: u32) {
+fn print_text<W: Write>(out: &mut W, text: &[u8], start: u32, len: u32) -> io::Result<()> {
     let from = start as usize;
     let count = len as usize;
     if from > text.len() {
-        return;
+        return Ok(());
     }
     if count > text.len() - from {
-        return;
+        return Ok(());
     }
     let to = from + count;
-    io::write_all(STDOUT_FILENO, b" `");
-    io::write_all(STDOUT_FILENO, &text[from..to]);
-    io::write_all(STDOUT_FILENO, b"`");
+    out.write_all(b" `")?;
+    out.write_all(&text[from..to])?;
+    out.write_all(b"`")
 }
 
-fn print_row(table: &[u32], rows: usize, row: usize, text: &[u8], names: &[u8])
+fn print_row<W: Write>(
+    out: &mut W,
+    table: &[u32],
+    rows: usize,
+    row: usize,
+    text: &[u8],
+    names: &[u8],
+) -> io::Result<()>
     requires { (row < rows) × (4 * rows ≤ length table.now) }
 {
     let at = 4 * row;
     let kind = table[at];
-    indent(depth(table, rows, row));
-    print_name(names, kind);
+    indent(out, depth(table, rows, row))?;
+    print_name(out, names, kind)?;
     if kind < 128 {
-        print_text(text, table[at + 2], table[at + 3]);
+        print_text(out, text, table[at + 2], table[at + 3])?;
     }
-    io::write_all(STDOUT_FILENO, b"\n");
+    out.write_all(b"\n")
 }
 
 // The rows whose subtree starts at row f, the outermost first.
-fn chain(table: &[u32], rows: usize, f: usize, text: &[u8], names: &[u8])
+fn chain<W: Write>(
+    out: &mut W,
+    table: &[u32],
+    rows: usize,
+    f: usize,
+    text: &[u8],
+    names: &[u8],
+) -> io::Result<()>
     requires { 4 * rows ≤ length table.now }
 {
     let mut row = rows;
     while row > f {
         row -= 1;
         if first(table, row) == f {
-            print_row(table, rows, row, text, names);
+            print_row(out, table, rows, row, text, names)?;
         }
     }
+    Ok(())
 }
 
 // Every row once, under its parent, in the order of the text.
-pub fn print(table: &[u32], rows: usize, text: &[u8], names: &[u8]) {
+pub fn print<W: Write>(
+    out: &mut W,
+    table: &[u32],
+    rows: usize,
+    text: &[u8],
+    names: &[u8],
+) -> io::Result<()> {
     if rows > table.len() / 4 {
-        return;
+        return Ok(());
     }
-    let mut f = 0;
-    while f < rows {
-        chain(table, rows, f, text, names);
-        f += 1;
+    for f in 0..rows {
+        chain(out, table, rows, f, text, names)?;
     }
+    Ok(())
 }

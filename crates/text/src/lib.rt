@@ -1,9 +1,13 @@
 // Lines of decimal numbers with one space between two: what the programs read their stored lists with, a byte at a time.
 #![tactic(auto)]
 
+mod fill;
+
 ghost use Rattle.std.specs.Prelude.{◌≡◌, ltb, length, set};
 ghost use Rattle.text.specs.Line.{longer, stepped, stored, ended, kept, listed, filled};
 ghost use Rattle.text.specs.Copy.{all_bytes, fits, copied};
+
+pub use fill::read_full;
 
 // A line, read up to some byte.
 #[derive(Clone, Copy)]
