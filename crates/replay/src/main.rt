@@ -6,15 +6,16 @@ mod case;
 mod table;
 mod wanted;
 
-ghost use Rattle.std.specs.Prelude.{◌≡◌, true, cond, ◌+◌, ◌≤◌, ◌<◌, length};
+ghost use Rattle.std.specs.Prelude.{◌≡◌, true, cond, ◌+◌, ◌≤◌, ◌<◌, length, IfOk};
 ghost use Rattle.text.specs.declared.Reading.TheVariants.{Before};
 ghost use Rattle.text.specs.Line.{kept};
 ghost use Rattle.replay.specs.Case.{Decides};
 ghost use Rattle.replay.specs.Input.{LineHolds, Stepped, Fed};
 
 use case::judge;
-use libc::{STDIN_FILENO, STDOUT_FILENO};
-use text::{Listed, Reading};
+use std::io;
+use std::io::{Read, Write};
+use text::{Listed, Reading, read_full};
 
 // How many cases there were, how many differ, and the line of the first that does (0: none).
 #[derive(Clone, Copy)]
@@ -142,24 +143,25 @@ fn piece(
     q
 }
 
-// One piece more of standard input. One that is short is the last. (No contract can say which bytes are read.)
-fn read_piece(
+// One piece more of the input. One that is short is the last. (No contract can say which bytes standard input gives.)
+fn read_piece<R: Read>(
+    input: &mut R,
     p: Place,
     numbers: &mut [u32],
     kinds: &mut [u8],
     table: &mut [u32],
     wanted: &mut [u32],
-) -> Turn
+) -> io::Result<Turn>
     requires { (p.tally.differ ≤ p.tally.cases) × (p.tally.cases < 4611686018427387904) }
-    ensures { (result.place.tally.differ ≤ result.place.tally.cases) × (result.place.tally.cases ≤ p.tally.cases + 4096) }
+    ensures { IfOk result (λ t. (t.place.tally.differ ≤ t.place.tally.cases) × (t.place.tally.cases ≤ p.tally.cases + 4096)) }
 {
-    let mut buffer = io::buffer();
-    let n = io::read_full(STDIN_FILENO, &mut buffer);
+    let mut buffer = [0u8; 4096];
+    let n = read_full(input, &mut buffer)?;
     let place = piece(p, &buffer[..n], numbers, kinds, table, wanted);
-    Turn {
+    Ok(Turn {
         place,
         more: n == 4096,
-    }
+    })
 }
 
 // Whether no byte of a line is read yet.
@@ -193,8 +195,14 @@ fn last(
     counted(t, same)
 }
 
-fn replay(numbers: &mut [u32], kinds: &mut [u8], table: &mut [u32], wanted: &mut [u32]) -> Whole
-    ensures { result.tally.differ ≤ result.tally.cases }
+fn replay<R: Read>(
+    input: &mut R,
+    numbers: &mut [u32],
+    kinds: &mut [u8],
+    table: &mut [u32],
+    wanted: &mut [u32],
+) -> io::Result<Whole>
+    ensures { IfOk result (λ w. w.tally.differ ≤ w.tally.cases) }
 {
     let none = Tally {
         cases: 0,
@@ -207,31 +215,32 @@ fn replay(numbers: &mut [u32], kinds: &mut [u8], table: &mut [u32], wanted: &mut
     };
     let mut left = PIECES;
     while left > 0 {
-        let t = read_piece(p, numbers, kinds, table, wanted);
+        let t = read_piece(input, p, numbers, kinds, table, wanted)?;
         p = t.place;
         if !t.more {
             let tally = last(p, numbers, kinds, table, wanted);
-            return Whole { tally, whole: true };
+            return Ok(Whole { tally, whole: true });
         }
         left -= 1;
     }
     let tally = p.tally;
-    Whole {
+    Ok(Whole {
         tally,
         whole: false,
-    }
+    })
 }
 
-fn show(t: Tally) {
-    io::print_decimal(STDOUT_FILENO, t.cases as u64);
-    io::write_all(STDOUT_FILENO, b" cases, ");
-    io::print_decimal(STDOUT_FILENO, t.differ as u64);
-    io::write_all(STDOUT_FILENO, b" differ");
-    if t.first != 0 {
-        io::write_all(STDOUT_FILENO, b", the first on line ");
-        io::print_decimal(STDOUT_FILENO, t.first as u64);
+fn show<W: Write>(out: &mut W, t: Tally) -> io::Result<()> {
+    let Tally {
+        cases,
+        differ,
+        first,
+    } = t;
+    write!(out, "{cases} cases, {differ} differ")?;
+    if first != 0 {
+        write!(out, ", the first on line {first}")?;
     }
-    io::write_all(STDOUT_FILENO, b"\n");
+    out.write_all(b"\n")
 }
 
 // Room for the numbers of the longest line, and for a table. (The contracts tell the lengths alone, which is all that lending needs.)
@@ -247,16 +256,21 @@ fn table_room() -> [u32; 1024]
     [0; 1024]
 }
 
-fn main() {
+fn main(rt: HostRuntime) -> io::Result<()> {
     let mut numbers = line_room();
-    let mut kinds = io::large_buffer();
+    let mut kinds = [0u8; 65536];
     let mut table = table_room();
     let mut wanted = table_room();
-    let w = replay(&mut numbers, &mut kinds, &mut table, &mut wanted);
+    let w = replay(
+        &mut rt.stdin(),
+        &mut numbers,
+        &mut kinds,
+        &mut table,
+        &mut wanted,
+    )?;
+    let mut out = rt.stdout();
     if !w.whole {
-        io::write_all(STDOUT_FILENO, b"the list is too long to be read whole\n");
-        return;
+        return writeln!(out, "the list is too long to be read whole");
     }
-    let tally = w.tally;
-    show(tally);
+    show(&mut out, w.tally)
 }

@@ -10,6 +10,7 @@ pub enum Wanted {
     Broken,
 }
 
+#[tactic(auto, unfolding(crate::specs::Wanted::row_put))]
 fn put(out: &mut [u32], row: usize, kind: u32, back: u32, start: u32, len: u32)
     requires { 4 * row + 4 ≤ length out.old }
     ensures { out.new ≡ row_put out.old row kind back start len }
@@ -22,6 +23,7 @@ fn put(out: &mut [u32], row: usize, kind: u32, back: u32, start: u32, len: u32)
 }
 
 // Where a node starts that stands over the `back` rows before it, with `byte` behind the last leaf.
+#[tactic(auto, unfolding(crate::specs::Wanted::start_of))]
 fn start(out: &[u32], row: usize, back: u32, byte: u32) -> u32
     requires { (4 * row + 4 ≤ length out.now) × (back ≤ row) }
     ensures { result ≡ start_of out.now row back byte }
@@ -43,6 +45,7 @@ fn less(a: u32, b: u32) -> u32
     a - b
 }
 
+#[tactic(auto, unfolding(crate::specs::Wanted::node_put))]
 fn node(out: &mut [u32], row: usize, kind: u32, back: u32, byte: u32)
     requires { (4 * row + 4 ≤ length out.old) × (back ≤ row) }
     ensures { out.new ≡ node_put out.old row kind back byte }
