@@ -32,29 +32,17 @@ abbrev gives : Entry → List ℕ → List ℕ → ℕ → ℕ → List ℕ → 
 gives e ks ls number place rows = record { entry = e; kinds = ks; lens = ls; size = 40; limit = 256; number = number; place = place; rows = rows }
 
 -- `a`
-abbrev name : Entry → Case
+abbrev pub name : Entry → Case
 name e =
     gives e (K-ident ∷ []) (1 ∷ []) 0 0
     (K-ident ∷ 0 ∷ 0 ∷ 1 ∷ Path ∷ 1 ∷ 0 ∷ 1 ∷ Expr ∷ 2 ∷ 0 ∷ 1 ∷ Root ∷ 3 ∷ 0 ∷ 1 ∷ [])
 
 -- `a+b`
-abbrev sum : Entry → Case
+abbrev pub sum : Entry → Case
 sum e =
     gives e (K-ident ∷ K-+ ∷ K-ident ∷ []) (1 ∷ 1 ∷ 1 ∷ []) 0 0
     (K-ident ∷ 0 ∷ 0 ∷ 1 ∷ Path ∷ 1 ∷ 0 ∷ 1 ∷ K-+ ∷ 0 ∷ 1 ∷ 1 ∷ ExprOperator ∷ 1 ∷ 1 ∷ 1 ∷ K-ident ∷ 0 ∷ 2 ∷ 1 ∷ Path ∷ 1 ∷ 2 ∷ 1 ∷
     ExprBinary ∷ 6 ∷ 0 ∷ 3 ∷ Expr ∷ 7 ∷ 0 ∷ 3 ∷ Root ∷ 8 ∷ 0 ∷ 3 ∷ [])
-
-name_result : {e : Entry} → Asked e → answered (name e) ≡ promised (name e)
-unfolding answered
-name_result in_root = refl
-name_result in_exprs = refl
-name_result in_format = refl
-
-sum_result : {e : Entry} → Asked e → answered (sum e) ≡ promised (sum e)
-unfolding answered
-sum_result in_root = refl
-sum_result in_exprs = refl
-sum_result in_format = refl
 
 -- what the promise allows of a case
 abbrev pub Allowed : Case → ℕ → ℕ → ℕ → List ℕ → Type 0
@@ -66,33 +54,17 @@ pub known : (c : Case) {number place count : ℕ} {table : List ℕ} → answere
 unfolding answered
 known c e p = rw (p.number_is, p.place_is, p.rows_is, p.table_is) e
 
-abbrev element : ℕ → List ℕ → ℕ
+abbrev pub element : ℕ → List ℕ → ℕ
 element i l = get_or l i 0
 
 -- ## Refusing everything
 
--- No entry refuses `a+b`.
-pub no_refusing_all : {e : Entry} {number place count : ℕ} {table : List ℕ} → Asked e →
-    Answered e (K-ident ∷ K-+ ∷ K-ident ∷ []) (1 ∷ 1 ∷ 1 ∷ []) 40 256 number place count table → number ≡ 0
-no_refusing_all {e} k p = ap (element 0) (known (sum e) (sum_result k) p)
-
--- Nor does `exprs` refuse any operator line that reads as a grouping, with any separator, any table with room and any limit from 14 on.
+-- `exprs` refuses no operator line that reads as a grouping, with any separator, any table with room and any limit from 14 on. (Nor does any entry refuse `a+b`: proofs/ShutOut.)
 pub no_refusing_lines : {l : Line} {separator n limit number place count : ℕ} {table : List ℕ} → Call l separator n limit → (g : Links) → Reads l.rest g →
     Answered (exprs separator) (kinds (spell l)) (lens (spell l)) n limit number place count table → number ≡ 0
 no_refusing_lines c g r p = ((gets c refl refl p).accepts g r).number_is
 
--- ## One fixed tree
-
--- In each entry `a` and `a+b` are answered with different row counts and different tables.
-pub no_fixed_tree : {e : Entry} {number number' place place' count count' : ℕ} {table table' : List ℕ} → Asked e →
-    Answered e (K-ident ∷ []) (1 ∷ []) 40 256 number place count table →
-    Answered e (K-ident ∷ K-+ ∷ K-ident ∷ []) (1 ∷ 1 ∷ 1 ∷ []) 40 256 number' place' count' table' →
-    (count ≡ count' → ⊥) × (table ≡ table' → ⊥)
-no_fixed_tree {e} k p q =
-    let f = known (name e) (name_result k) p in
-    let g = known (sum e) (sum_result k) q in
-    -- the third row is an Expr's, or `+`
-    (λ same. omega (arith, ap (element 2) f, ap (element 2) g), λ same. omega (arith, ap (element 11) f, ap (element 11) g, ap (element 8) same))
+-- ## One fixed tree. (`a` and `a+b` are answered with different ones: proofs/ShutOut)
 
 -- a row count and a table fix the rows
 flat_same : (l m : List Row) → length l ≡ length m → flat l ≡ flat m → l ≡ m
