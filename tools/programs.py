@@ -10,8 +10,8 @@ A program is a tuple:
 """
 import re
 
-ASKS = {'next-is': 1, 'next': 1, 'not-eof': 1, 'next-glued': 'g', 'is-pat': 'g', 'is-expr': 'g', 'is-expr-with': 'g',
-        'lookahead': 2, 'is-stmt-recovering': 2}
+ASKS = {'next_is': 1, 'next': 1, 'not_eof': 1, 'next_glued': 'g', 'is_pat': 'g', 'is_expr': 'g', 'is_expr_with': 'g',
+        'lookahead': 2, 'is_stmt_recovering': 2}
 LOOKS = {'peek': 'nth0', 'glued': 'glued', 'here': 'here'}
 
 

@@ -1,62 +1,62 @@
 # What tools/walk.py cannot read off the code and the program of a rule in crates/krosstavel, and the proofs of the entries.
-START = 'use Rattle·krosstavel·specs.specs.Starting.{same-step, some-is-some}'
-WHILE = 'Loop ({0}) ({0}) t₀ t kinds lens table₀ table'
+START = 'use Rattle.krosstavel.specs.Starting.{marked_start, limit_few, checked_valid, fine, treated_some, valid_root, valid_format, same_step, some_is_some}'
+ENTRY = 'use Rattle.entry.specs.Whole.{entry_refused, entry_parsed, counted}'
+PARSE = 'use Rattle.definition.specs.Parse.{root, exprs, format, program, is_limit}'
+LOOP = 'Loop ({0}) ({0}) l.initial.t l.t l.kinds l.lens l.initial.table l.table'
 
 
-def entry(name, use, value, valid, treated=''):
+def entry(name, value, valid, treated=''):
     """An entry without its last step: refused by the check, or parsed by its rule from the tape that `begin` gives. `valid` is what the code found of limit and separator."""
-    rule = name + '-rule'
-    call = f'({value}) (@args .limit) ({valid}) (@check .ensures) (@args .table .now)'
+    rule = f'{name}_rule-u'
+    call = f'{value} c.args.limit ({valid}) c.check-f.ensures'
+    table = 'c.args.table.now'
     return {
+        'by-words': True,
         'needs': {
-            'returns': f'entry-refused {call} (@if1 .taken) (@refused .ensures)',
-            'begin-requires': f'(limit-few ({value}) (@args .limit) ({valid}) (@check .ensures) (@if1 .left), @check .ensures .sized (@if1 .left))',
-            f'{rule}-requires': f'(marked-start (@args .table .now) (@begin .ensures), {treated}@begin .ensures .ready (@args .table .now))',
-            'outcome-of-requires': f'counted (@{rule} .ensures)',
-            'returns-2': f'entry-parsed {call} (@if1 .left) (@begin .ensures) (@{rule} .ensures) (@outcome-of .ensures)',
+            'returns-then-f-ne0': f'entry_refused {call} {table} c.if-f-ne0.true c.refused.ensures',
+            'begin-t-requires': f'(limit_few {call} c.if-f-ne0.false, c.check-f.ensures.sized c.if-f-ne0.false)',
+            f'{rule}-requires': f'(marked_start {table} c.begin-t.ensures, {treated}c.begin-t.ensures.ready {table})',
+            'outcome_of-requires': f'counted c.{rule}.ensures',
+            'returns': f'entry_parsed {call} {table} c.if-f-ne0.false c.begin-t.ensures c.{rule}.ensures c.outcome_of.ensures',
         },
         'unfolding': 'program',
-        'unfolds': ['returns-2'],
-        'use': [
-            'use Rattle·definition.specs.Parse.{%s, program, isLimit}' % name,
-            'use Rattle·entry.specs.Whole.{entry-refused, entry-parsed, counted}',
-            'use Rattle·krosstavel·specs.specs.Starting.{marked-start, limit-few, %s}' % use,
-        ],
+        'unfolds': ['returns'],
+        'use': [PARSE, ENTRY, START],
     }
 
 
 def settled(name):
     """The entry: its last step after the rows."""
+    rows = f'c.{name}_rows-r.ensures'
     return {
+        'by-words': True,
         'needs': {
-            'settle-requires': f'omega (arith, @{name}-rows .ensures .inside, @{name}-rows .ensures .len)',
-            'returns': f'settled (@{name}-rows .ensures) (@settle .ensures)',
+            'settle-requires': f'omega (arith, {rows}.inside, {rows}.len)',
+            'returns': f'settled {rows} c.settle.ensures',
         },
-        'use': ['use native.Mathlib.Omega.{arith}', 'use Rattle·entry.specs.Table.{settled}'],
+        'use': ['use Rattle.entry.specs.Table.{settled}'],
     }
 
 
-LIMIT = 'valid-{} (@args .limit) (@is-limit .ensures)'
-BOTH = 'rw (@is-limit .ensures, @is-separator .ensures)'
+LIMIT = 'valid_{} c.args.limit c.is_limit.ensures'
+BOTH = 'rw (c.is_limit.ensures, c.is_separator.ensures)'
 # a separator that is let pass is a token's kind; the code's kind is what it is treated as
-FINE = f'fine (isLimit (@args .limit)) (@args .separator) (sym ({BOTH}) ∙ checked-valid (@check .ensures) (@if1 .left))'
-EXPRS = entry('exprs', 'checked-valid, fine, treated-some', 'exprs (@args .separator)', BOTH, f'treated-some ({FINE}), ')
-EXPRS['needs']['cast-exprs-rule'] = f'omega (arith, {FINE} .small)'
-EXPRS['use'] += ['use mathlib.Core.Path.{sym, _∙_}', 'use native.Mathlib.Omega.{arith}']
+FINE = f'fine (is_limit c.args.limit) c.args.separator (sym ({BOTH}) ∙ checked_valid c.check-f.ensures c.if-f-ne0.false)'
+EXPRS = entry('exprs', '(exprs c.args.separator)', BOTH, f'treated_some ({FINE}), ')
+EXPRS['needs']['overflow_cast-separator'] = f'omega (arith, ({FINE}).small)'
 
 WORDS = {
-    'root-rule': {'inv': WHILE.format('while not-eof stmt'), 'names': ['while', 'not-eof', 'stmt']},
-    'exprs-rule': {
-        'inv': WHILE.format('while not-eof (separated separator)'),
-        'names': ['while', 'not-eof', 'separated'],
+    'root_rule': {'inv': LOOP.format('while not_eof stmt'), 'use': [START]},
+    'exprs_rule': {
+        'inv': LOOP.format('while not_eof (separated l.separator)'),
         # the code's kind is what the separator is treated as
-        'wrap': {'bump-while': 'same-step (ap bump-while (@treated .ensures)) ({})'},
+        'wrap': {'bump_while': 'same_step (ap bump_while c.treated-k.ensures) {}'},
         'use': [START],
     },
-    'format-rule': {'inv': WHILE.format('while not-eof bump'), 'names': ['while', 'not-eof'], 'use': [START, 'use Rattle·definition.specs.Prog.{bump}']},
-    'root-rows': entry('root', 'valid-root', 'root', LIMIT.format('root')),
-    'exprs-rows': EXPRS,
-    'format-rows': entry('format', 'valid-format', 'format', LIMIT.format('format')),
+    'format_rule': {'inv': LOOP.format('while not_eof bump'), 'use': [START]},
+    'root_rows': entry('root', 'root', LIMIT.format('root')),
+    'exprs_rows': EXPRS,
+    'format_rows': entry('format', 'format', LIMIT.format('format')),
     'root': settled('root'),
     'exprs': settled('exprs'),
     'format': settled('format'),

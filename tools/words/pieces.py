@@ -3,7 +3,7 @@ WORDS = {
     # its level is bounded besides
     'stream': {'by-hand': True},
     'modifiers': {
-        'inv': 'Loop (repeat modifiers-turn (is-const, has-mods)) (repeat modifiers-turn (false, false)) t₀ t kinds lens table₀ table',
+        'inv': 'Loop (repeat modifiers_turn (l.is_const, l.has_mods)) (repeat modifiers_turn (false, false)) l.initial.t l.t l.kinds l.lens l.initial.table l.table',
         'none': '(false, false)',
     },
 }

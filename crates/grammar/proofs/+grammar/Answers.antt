@@ -1,3 +1,4 @@
+-- Written by tools/walk.py from the code and its program; docs/CONTRIBUTING.md says how.
 -- Assumes nothing.
 use mathlib.Core.Path.{refl, sym, ap, ◌∙◌}
 use mathlib.Core.Bool.{true, false}
@@ -11,9 +12,9 @@ use Rattle.tape.specs.declared.Tape.{Tape}
 use Rattle.tape.specs.Steps.{burns, here_few, marked_now, step_marked, held, held_now, followed, not_key, both, cut, refusal, ends, if_yes, if_no, look, touch, spot, ask, ask_glued, ask_second_as, scoped, unscoped, nothing, answered, says, kept, refuses, refused_tape, inv_start, inv_again, inv_end, last, last_cut}
 use Rattle.tape.specs.Counted.{deep, entered, entered_bool, barred, goes_on, goes_some, goes_glued, and_on}
 use Rattle.grammar.specs.Cuts.{outer_assign, outer_chain, outer_op, outer_rest, primary_last, primary_sign, primary_word, stmt_inner, stmt_kind, stmt_outer}
-use Rattle.grammar.specs.Idle.{looked_for, idle_op}
-use Rattle.grammar.specs.Looked.{looked, read_as}
 use Rattle.grammar.specs.Loops.{operator_goes, nest_goes, chain_goes}
+use Rattle.grammar.specs.Looked.{looked, read_as}
+use Rattle.grammar.specs.Idle.{looked_for, idle_op}
 use Rattle.grammar.proofs.+grammar.Goals as goal
 
 pub a-peek-requires : goal.a-peek-requires
@@ -126,7 +127,7 @@ bl-returns-then-t-ne0-2 t c =
 
 pub bl-close_at-requires : goal.bl-close_at-requires
 bl-close_at-requires t c =
-    (step_marked (c.bw-t.ensures.under _) c.if-t-ne0-2.false (marked_now), (c.bw-t.ensures.under 0).ready c.if-t-ne0-2.false)
+    (step_marked (c.bw-t.ensures.under _) c.if-t-ne0-2.false marked_now, (c.bw-t.ensures.under 0).ready c.if-t-ne0-2.false)
 
 pub bl-returns : goal.bl-returns
 unfolding block
@@ -226,7 +227,7 @@ by-returns-then-t-ne0-2 t c =
 
 pub by-close_at-requires : goal.by-close_at-requires
 by-close_at-requires t c =
-    (step_marked (c.bs-t.ensures.under _) c.if-t-ne0-2.false (marked_now), (c.bs-t.ensures.under 0).ready c.if-t-ne0-2.false)
+    (step_marked (c.bs-t.ensures.under _) c.if-t-ne0-2.false marked_now, (c.bs-t.ensures.under 0).ready c.if-t-ne0-2.false)
 
 pub by-returns : goal.by-returns
 unfolding block_body
@@ -253,7 +254,7 @@ ca-returns-then-t-ne0-2 t c =
 
 pub ca-close_at-requires : goal.ca-close_at-requires
 ca-close_at-requires t c =
-    (step_marked (c.ps-t.ensures.under _) c.if-t-ne0-2.false (marked_now), (c.ps-t.ensures.under 0).ready c.if-t-ne0-2.false)
+    (step_marked (c.ps-t.ensures.under _) c.if-t-ne0-2.false marked_now, (c.ps-t.ensures.under 0).ready c.if-t-ne0-2.false)
 
 pub ca-returns : goal.ca-returns
 unfolding closure_arguments
@@ -298,7 +299,7 @@ cd-returns-then-t-ne0-4 t c =
 
 pub cd-close_at-requires : goal.cd-close_at-requires
 cd-close_at-requires t c =
-    (step_marked (c.ci-t.ensures.under _) c.if-t-ne0-4.false (step_marked (c.pat-t.ensures.under _) c.if-t-ne0-3.false (step_marked (c.bump-t.ensures.under _) c.if-t-ne0-2.false (marked_now))), (c.ci-t.ensures.under 0).ready c.if-t-ne0-4.false)
+    (step_marked (c.ci-t.ensures.under _) c.if-t-ne0-4.false (step_marked (c.pat-t.ensures.under _) c.if-t-ne0-3.false (step_marked (c.bump-t.ensures.under _) c.if-t-ne0-2.false marked_now)), (c.ci-t.ensures.under 0).ready c.if-t-ne0-4.false)
 
 pub cd-returns : goal.cd-returns
 unfolding condition_let
@@ -421,7 +422,7 @@ d-returns-then-j-eq0 t c =
 
 pub d-finish-requires : goal.d-finish-requires
 d-finish-requires t c =
-    held_now ((c.li-t.ensures.under 0).ready c.if-t-ne0-2.false) (step_marked (c.li-t.ensures.under _) c.if-t-ne0-2.false (marked_now))
+    held_now ((c.li-t.ensures.under 0).ready c.if-t-ne0-2.false) (step_marked (c.li-t.ensures.under _) c.if-t-ne0-2.false marked_now)
 
 pub d-returns : goal.d-returns
 unfolding chain_step
@@ -489,7 +490,7 @@ eb-returns-then-t-ne0-4 t c =
 
 pub eb-close_at-requires : goal.eb-close_at-requires
 eb-close_at-requires t c =
-    (step_marked (c.bl-t.ensures.under _) c.if-t-ne0-4.false (step_marked (c.el-t.ensures.under _) c.if-t-ne0-3.false (step_marked (c.bump-t.ensures.under _) c.if-t-ne0-2.false (marked_now))), (c.bl-t.ensures.under 0).ready c.if-t-ne0-4.false)
+    (step_marked (c.bl-t.ensures.under _) c.if-t-ne0-4.false (step_marked (c.el-t.ensures.under _) c.if-t-ne0-3.false (step_marked (c.bump-t.ensures.under _) c.if-t-ne0-2.false marked_now)), (c.bl-t.ensures.under 0).ready c.if-t-ne0-4.false)
 
 pub eb-returns-then-is_else_if-eq1 : goal.eb-returns-then-is_else_if-eq1
 unfolding else_branch
@@ -498,7 +499,7 @@ eb-returns-then-is_else_if-eq1 t c =
 
 pub eb-close_at-requires-2 : goal.eb-close_at-requires-2
 eb-close_at-requires-2 t c =
-    (step_marked (c.bl-t.ensures.under _) c.if-t-ne0-4.false (step_marked (c.el-t.ensures.under _) c.if-t-ne0-3.false (step_marked (c.bump-t.ensures.under _) c.if-t-ne0-2.false (marked_now))), (c.bl-t.ensures.under 0).ready c.if-t-ne0-4.false)
+    (step_marked (c.bl-t.ensures.under _) c.if-t-ne0-4.false (step_marked (c.el-t.ensures.under _) c.if-t-ne0-3.false (step_marked (c.bump-t.ensures.under _) c.if-t-ne0-2.false marked_now)), (c.bl-t.ensures.under 0).ready c.if-t-ne0-4.false)
 
 pub eb-returns : goal.eb-returns
 unfolding else_branch
@@ -707,7 +708,7 @@ ex-returns-then-t-ne0-5 t c =
 
 pub ex-close_at-requires : goal.ex-close_at-requires
 ex-close_at-requires t c =
-    (step_marked (c.ou-t.ensures.under _) c.if-t-ne0-5.false (step_marked (c.labels-t.ensures.under _) c.if-t-ne0-4.false (step_marked (c.modifiers-t.ensures.under _) c.if-t-ne0-3.false (step_marked (c.attributes-t.ensures.under _) c.if-t-ne0-2.false (marked_now)))), (c.ou-t.ensures.under 0).ready c.if-t-ne0-5.false)
+    (step_marked (c.ou-t.ensures.under _) c.if-t-ne0-5.false (step_marked (c.labels-t.ensures.under _) c.if-t-ne0-4.false (step_marked (c.modifiers-t.ensures.under _) c.if-t-ne0-3.false (step_marked (c.attributes-t.ensures.under _) c.if-t-ne0-2.false marked_now))), (c.ou-t.ensures.under 0).ready c.if-t-ne0-5.false)
 
 pub ex-returns : goal.ex-returns
 unfolding expr_with
@@ -1151,7 +1152,7 @@ mc-returns-then-t-ne0-4 t c =
 
 pub mc-close_at-requires : goal.mc-close_at-requires
 mc-close_at-requires t c =
-    (step_marked (c.e-t-2.ensures.under _) c.if-t-ne0-4.false (step_marked (c.e-t.ensures.under _) c.if-t-ne0-3.false (step_marked (c.pat-t.ensures.under _) c.if-t-ne0-2.false (marked_now))), (c.e-t-2.ensures.under 0).ready c.if-t-ne0-4.false)
+    (step_marked (c.e-t-2.ensures.under _) c.if-t-ne0-4.false (step_marked (c.e-t.ensures.under _) c.if-t-ne0-3.false (step_marked (c.pat-t.ensures.under _) c.if-t-ne0-2.false marked_now)), (c.e-t-2.ensures.under 0).ready c.if-t-ne0-4.false)
 
 pub mc-returns : goal.mc-returns
 unfolding match_case
@@ -1282,7 +1283,7 @@ ob-returns-then-is_range t c =
 
 pub ob-oc-requires : goal.ob-oc-requires
 ob-oc-requires t c =
-    (omega (arith, c.decreases, (c.mark-t.ensures.under 0).left, (c.pr-t.ensures.under 0).left), (step_marked (c.pr-t.ensures.under _) c.if-t-ne0-2.false (marked_now), (c.pr-t.ensures.under 0).ready c.if-t-ne0-2.false))
+    (omega (arith, c.decreases, (c.mark-t.ensures.under 0).left, (c.pr-t.ensures.under 0).left), (step_marked (c.pr-t.ensures.under _) c.if-t-ne0-2.false marked_now, (c.pr-t.ensures.under 0).ready c.if-t-ne0-2.false))
 
 pub ob-returns : goal.ob-returns
 unfolding outer_expr_with_text outer_chain outer_rest outer_op outer_assign
@@ -1637,7 +1638,7 @@ pr-bump-u-requires t c =
 
 pub pr-finish-requires : goal.pr-finish-requires
 pr-finish-requires t c =
-    held (c.bump-u.ensures.under _) (marked_now)
+    held (c.bump-u.ensures.under _) marked_now
 
 pub pr-returns-then-is_lit : goal.pr-returns-then-is_lit
 unfolding expr_primary primary_sign primary_word primary_last
@@ -1659,7 +1660,7 @@ pr-eg-u-requires t c =
 
 pub pr-finish-requires-in-68 : goal.pr-finish-requires-in-68
 pr-finish-requires-in-68 t c =
-    held (c.eg-u.ensures.under _) (marked_now)
+    held (c.eg-u.ensures.under _) marked_now
 
 pub pr-tg-u-requires : goal.pr-tg-u-requires
 pr-tg-u-requires t c =
@@ -1667,7 +1668,7 @@ pr-tg-u-requires t c =
 
 pub pr-finish-requires-in-18 : goal.pr-finish-requires-in-18
 pr-finish-requires-in-18 t c =
-    held (c.tg-u.ensures.under _) (marked_now)
+    held (c.tg-u.ensures.under _) marked_now
 
 pub pr-ps-u-requires : goal.pr-ps-u-requires
 pr-ps-u-requires t c =
@@ -1675,7 +1676,7 @@ pr-ps-u-requires t c =
 
 pub pr-finish-requires-in-20 : goal.pr-finish-requires-in-20
 pr-finish-requires-in-20 t c =
-    held (c.ps-u.ensures.under _) (marked_now)
+    held (c.ps-u.ensures.under _) marked_now
 
 pub pr-bw-u-requires : goal.pr-bw-u-requires
 pr-bw-u-requires t c =
@@ -1683,7 +1684,7 @@ pr-bw-u-requires t c =
 
 pub pr-finish-requires-in-22 : goal.pr-finish-requires-in-22
 pr-finish-requires-in-22 t c =
-    held (c.bw-u.ensures.under _) (marked_now)
+    held (c.bw-u.ensures.under _) marked_now
 
 pub pr-bump-u-requires-in-70 : goal.pr-bump-u-requires-in-70
 pr-bump-u-requires-in-70 t c =
@@ -1691,7 +1692,7 @@ pr-bump-u-requires-in-70 t c =
 
 pub pr-finish-requires-in-70 : goal.pr-finish-requires-in-70
 pr-finish-requires-in-70 t c =
-    held (c.bump-u-in-70.ensures.under _) (marked_now)
+    held (c.bump-u-in-70.ensures.under _) marked_now
 
 pub pr-pu-requires : goal.pr-pu-requires
 pr-pu-requires t c =
@@ -2112,7 +2113,7 @@ rd-returns-then-is_none t c =
 
 pub rd-n-t-requires : goal.rd-n-t-requires
 rd-n-t-requires t c =
-    (omega (arith, c.decreases, (c.mark-t.ensures.under 0).left, (c.ou-t.ensures.under 0).left, c.loop-op.invariant.loop.at.left), (c.loop-op.invariant.loop.at.marked (step_marked (c.ou-t.ensures.under _) c.if-t-ne0-2.false (marked_now)), c.requires.0, c.loop-op.invariant.next, c.loop-op.invariant.loop.ready))
+    (omega (arith, c.decreases, (c.mark-t.ensures.under 0).left, (c.ou-t.ensures.under 0).left, c.loop-op.invariant.loop.at.left), (c.loop-op.invariant.loop.at.marked (step_marked (c.ou-t.ensures.under _) c.if-t-ne0-2.false marked_now), c.requires.0, c.loop-op.invariant.next, c.loop-op.invariant.loop.ready))
 
 pub rd-returns-then-t-ne0-3 : goal.rd-returns-then-t-ne0-3
 unfolding operand tighter_turn
@@ -2268,7 +2269,7 @@ sc-returns-then-t-ne0-3 t c =
 
 pub sc-close_at-requires : goal.sc-close_at-requires
 sc-close_at-requires t c =
-    (step_marked (c.e-t.ensures.under _) c.if-t-ne0-3.false (step_marked (c.sp-t.ensures.under _) c.if-t-ne0-2.false (marked_now)), (c.e-t.ensures.under 0).ready c.if-t-ne0-3.false)
+    (step_marked (c.e-t.ensures.under _) c.if-t-ne0-3.false (step_marked (c.sp-t.ensures.under _) c.if-t-ne0-2.false marked_now), (c.e-t.ensures.under 0).ready c.if-t-ne0-3.false)
 
 pub sc-returns : goal.sc-returns
 unfolding select_case
@@ -2344,7 +2345,7 @@ si-peek-k-requires t c =
 
 pub si-sk-requires : goal.si-sk-requires
 si-sk-requires t c =
-    (omega (arith, c.decreases, (c.mark-t.ensures.under 0).left, (c.modifiers-t.ensures.under 0).left), (step_marked (c.modifiers-t.ensures.under _) c.if-t-ne0-2.false (marked_now), (c.modifiers-t.ensures.under 0).ready c.if-t-ne0-2.false))
+    (omega (arith, c.decreases, (c.mark-t.ensures.under 0).left, (c.modifiers-t.ensures.under 0).left), (step_marked (c.modifiers-t.ensures.under _) c.if-t-ne0-2.false marked_now, (c.modifiers-t.ensures.under 0).ready c.if-t-ne0-2.false))
 
 pub si-returns : goal.si-returns
 unfolding stmt_inner
@@ -2562,7 +2563,7 @@ so-returns-then-t-ne0-3 t c =
 
 pub so-close_at-requires : goal.so-close_at-requires
 so-close_at-requires t c =
-    (step_marked (c.si-t.ensures.under _) c.if-t-ne0-3.false (step_marked (c.attributes-t.ensures.under _) c.if-t-ne0-2.false (marked_now)), (c.si-t.ensures.under 0).ready c.if-t-ne0-3.false)
+    (step_marked (c.si-t.ensures.under _) c.if-t-ne0-3.false (step_marked (c.attributes-t.ensures.under _) c.if-t-ne0-2.false marked_now), (c.si-t.ensures.under 0).ready c.if-t-ne0-3.false)
 
 pub so-returns : goal.so-returns
 unfolding stmt_outer

@@ -1,3 +1,4 @@
+-- Written by tools/walk.py from the code and its program; docs/CONTRIBUTING.md says how.
 -- Assumes nothing.
 use Prim.Native.Nat.{◌+◌, ◌*◌}
 use mathlib.Core.Bool.{false}
@@ -231,7 +232,7 @@ decreases-b-loop-brace l =
 
 abbrev pub invariant-bs-loop-table : goal.invariant-bs-loop-table
 invariant-bs-loop-table l =
-    Loop (block_stmts) (block_stmts) l.initial.t l.t l.kinds l.lens l.initial.table l.table
+    Loop block_stmts block_stmts l.initial.t l.t l.kinds l.lens l.initial.table l.table
 
 abbrev pub decreases-bs-loop-table : goal.decreases-bs-loop-table
 decreases-bs-loop-table l =
@@ -247,7 +248,7 @@ decreases-ch-loop-t l =
 
 abbrev pub invariant-en-loop-table : goal.invariant-en-loop-table
 invariant-en-loop-table l =
-    Loop (else_branches) (else_branches) l.initial.t l.t l.kinds l.lens l.initial.table l.table
+    Loop else_branches else_branches l.initial.t l.t l.kinds l.lens l.initial.table l.table
 
 abbrev pub decreases-en-loop-table : goal.decreases-en-loop-table
 decreases-en-loop-table l =
@@ -255,7 +256,7 @@ decreases-en-loop-table l =
 
 abbrev pub invariant-ml-loop-table : goal.invariant-ml-loop-table
 invariant-ml-loop-table l =
-    Loop (match_list) (match_list) l.initial.t l.t l.kinds l.lens l.initial.table l.table
+    Loop match_list match_list l.initial.t l.t l.kinds l.lens l.initial.table l.table
 
 abbrev pub decreases-ml-loop-table : goal.decreases-ml-loop-table
 decreases-ml-loop-table l =
@@ -263,7 +264,7 @@ decreases-ml-loop-table l =
 
 abbrev pub invariant-of-loop-table : goal.invariant-of-loop-table
 invariant-of-loop-table l =
-    Loop (object_fields) (object_fields) l.initial.t l.t l.kinds l.lens l.initial.table l.table
+    Loop object_fields object_fields l.initial.t l.t l.kinds l.lens l.initial.table l.table
 
 abbrev pub decreases-of-loop-table : goal.decreases-of-loop-table
 decreases-of-loop-table l =
@@ -279,7 +280,7 @@ decreases-rd-loop-op l =
 
 abbrev pub invariant-sl-loop-table : goal.invariant-sl-loop-table
 invariant-sl-loop-table l =
-    Loop (select_list) (select_list) l.initial.t l.t l.kinds l.lens l.initial.table l.table
+    Loop select_list select_list l.initial.t l.t l.kinds l.lens l.initial.table l.table
 
 abbrev pub decreases-sl-loop-table : goal.decreases-sl-loop-table
 decreases-sl-loop-table l =
@@ -295,7 +296,7 @@ decreases-u-loop-table l =
 
 abbrev pub invariant-x-loop-table : goal.invariant-x-loop-table
 invariant-x-loop-table l =
-    Loop (expr_list) (expr_list) l.initial.t l.t l.kinds l.lens l.initial.table l.table
+    Loop expr_list expr_list l.initial.t l.t l.kinds l.lens l.initial.table l.table
 
 abbrev pub decreases-x-loop-table : goal.decreases-x-loop-table
 decreases-x-loop-table l =

@@ -1,17 +1,11 @@
 -- Written by tools/walk.py from the code and its program; docs/CONTRIBUTING.md says how.
 -- Assumes nothing.
-use mathlib.Core.Path.{◌∙◌}
-use Rattle.definition.specs.Grammar.{}
 use Rattle.tape.specs.Steps.{step_marked, both, cut}
 use Rattle.krosstavel.proofs.close_root.Goals as goal
 
 pub flush_ws-t-requires : goal.flush_ws-t-requires
 flush_ws-t-requires c =
     c.requires.1
-
-pub shape_of-table-then-t-ne0 : goal.shape_of-table-then-t-ne0
-shape_of-table-then-t-ne0 c =
-    (c.flush_ws-t.ensures.under 0).len
 
 pub returns-then-t-ne0 : goal.returns-then-t-ne0
 returns-then-t-ne0 c =
@@ -20,10 +14,6 @@ returns-then-t-ne0 c =
 pub close_at-requires : goal.close_at-requires
 close_at-requires c =
     (step_marked (c.flush_ws-t.ensures.under _) c.if-t-ne0.false c.requires.0, (c.flush_ws-t.ensures.under 0).ready c.if-t-ne0.false)
-
-pub shape_of-table : goal.shape_of-table
-shape_of-table c =
-    c.close_at.ensures.len ∙ (c.flush_ws-t.ensures.under 0).len
 
 pub returns : goal.returns
 returns c =

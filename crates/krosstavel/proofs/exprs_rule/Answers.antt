@@ -22,10 +22,6 @@ pub p-t-requires : goal.p-t-requires
 p-t-requires c =
     c.loop-table.invariant.ready
 
-pub shape_of-table-then-t-ne0 : goal.shape_of-table-then-t-ne0
-shape_of-table-then-t-ne0 c =
-    (c.p-t.ensures.under 0).len ∙ (c.loop-table.invariant.under 0).len
-
 pub returns-then-t-ne0 : goal.returns-then-t-ne0
 unfolding exprs while_turn separated
 returns-then-t-ne0 c =
@@ -34,10 +30,6 @@ returns-then-t-ne0 c =
 pub bump_while-t-requires : goal.bump_while-t-requires
 bump_while-t-requires c =
     (omega arith, (c.p-t.ensures.under 0).ready c.if-t-ne0.false)
-
-pub shape_of-table-then-t-ne0-2 : goal.shape_of-table-then-t-ne0-2
-shape_of-table-then-t-ne0-2 c =
-    (c.bump_while-t.ensures.under 0).len ∙ ((c.p-t.ensures.under 0).len ∙ (c.loop-table.invariant.under 0).len)
 
 pub returns-then-t-ne0-2 : goal.returns-then-t-ne0-2
 unfolding exprs while_turn separated
@@ -56,10 +48,6 @@ loop-table-preserved c =
 pub close_root-requires : goal.close_root-requires
 close_root-requires c =
     ((c.loop-table.invariant.under _).marked c.requires.0, c.loop-table.invariant.ready)
-
-pub shape_of-table : goal.shape_of-table
-shape_of-table c =
-    c.close_root.ensures.len ∙ (c.loop-table.invariant.under 0).len
 
 pub returns : goal.returns
 unfolding exprs while_turn separated

@@ -12,10 +12,6 @@ pub p-t-requires : goal.p-t-requires
 p-t-requires c =
     c.requires.1
 
-pub shape_of-table-then-t-ne0 : goal.shape_of-table-then-t-ne0
-shape_of-table-then-t-ne0 c =
-    (c.p-t.ensures.under 0).len
-
 pub returns-then-t-ne0 : goal.returns-then-t-ne0
 unfolding format while_turn
 returns-then-t-ne0 c =
@@ -34,10 +30,6 @@ pub bump-t-requires : goal.bump-t-requires
 bump-t-requires c =
     c.loop-table.invariant.ready
 
-pub shape_of-table-then-t-ne0-2 : goal.shape_of-table-then-t-ne0-2
-shape_of-table-then-t-ne0-2 c =
-    (c.bump-t.ensures.under 0).len ∙ ((c.loop-table.invariant.under 0).len ∙ (c.p-t.ensures.under 0).len)
-
 pub returns-then-t-ne0-2 : goal.returns-then-t-ne0-2
 unfolding format while_turn
 returns-then-t-ne0-2 c =
@@ -55,10 +47,6 @@ loop-table-preserved c =
 pub close_root-requires : goal.close_root-requires
 close_root-requires c =
     ((c.loop-table.invariant.under _).marked (step_marked (c.p-t.ensures.under _) c.if-t-ne0.false c.requires.0), c.loop-table.invariant.ready)
-
-pub shape_of-table : goal.shape_of-table
-shape_of-table c =
-    c.close_root.ensures.len ∙ ((c.loop-table.invariant.under 0).len ∙ (c.p-t.ensures.under 0).len)
 
 pub returns : goal.returns
 unfolding format while_turn

@@ -1,8 +1,8 @@
 -- Written by tools/walk.py from the code and its program; docs/CONTRIBUTING.md says how.
 -- Assumes nothing.
+use Rattle.definition.specs.Prog.{bump}
 use Rattle.definition.specs.Grammar.{not_eof, while}
 use Rattle.tape.specs.Steps.{Loop, fuel}
-use Rattle.definition.specs.Prog.{bump}
 use Rattle.krosstavel.proofs.format_rule.Given as goal
 
 abbrev pub invariant-loop-table : goal.invariant-loop-table

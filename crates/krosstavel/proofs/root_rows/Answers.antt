@@ -1,17 +1,18 @@
 -- Written by tools/walk.py from the code and its program; docs/CONTRIBUTING.md says how.
 -- Assumes nothing.
-use Rattle.definition.specs.Parse.{root, program}
+use Rattle.definition.specs.Grammar.{root}
+use Rattle.definition.specs.Parse.{program}
 use Rattle.entry.specs.Whole.{entry_refused, entry_parsed, counted}
 use Rattle.krosstavel.specs.Starting.{marked_start, limit_few, valid_root}
 use Rattle.krosstavel.proofs.root_rows.Goals as goal
 
 pub returns-then-f-ne0 : goal.returns-then-f-ne0
 returns-then-f-ne0 c =
-    entry_refused (root) c.args.limit (valid_root c.args.limit c.is_limit.ensures) c.check-f.ensures c.args.table.now c.if-f-ne0.true c.refused.ensures
+    entry_refused root c.args.limit (valid_root c.args.limit c.is_limit.ensures) c.check-f.ensures c.args.table.now c.if-f-ne0.true c.refused.ensures
 
 pub begin-t-requires : goal.begin-t-requires
 begin-t-requires c =
-    (limit_few (root) c.args.limit (valid_root c.args.limit c.is_limit.ensures) c.check-f.ensures c.if-f-ne0.false, c.check-f.ensures.sized c.if-f-ne0.false)
+    (limit_few root c.args.limit (valid_root c.args.limit c.is_limit.ensures) c.check-f.ensures c.if-f-ne0.false, c.check-f.ensures.sized c.if-f-ne0.false)
 
 pub root_rule-u-requires : goal.root_rule-u-requires
 root_rule-u-requires c =
@@ -24,4 +25,4 @@ outcome_of-requires c =
 pub returns : goal.returns
 unfolding program
 returns c =
-    entry_parsed (root) c.args.limit (valid_root c.args.limit c.is_limit.ensures) c.check-f.ensures c.args.table.now c.if-f-ne0.false c.begin-t.ensures c.root_rule-u.ensures c.outcome_of.ensures
+    entry_parsed root c.args.limit (valid_root c.args.limit c.is_limit.ensures) c.check-f.ensures c.args.table.now c.if-f-ne0.false c.begin-t.ensures c.root_rule-u.ensures c.outcome_of.ensures

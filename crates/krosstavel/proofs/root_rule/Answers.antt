@@ -20,10 +20,6 @@ pub st-t-requires : goal.st-t-requires
 st-t-requires c =
     c.loop-table.invariant.ready
 
-pub shape_of-table-then-t-ne0 : goal.shape_of-table-then-t-ne0
-shape_of-table-then-t-ne0 c =
-    (c.st-t.ensures.under 0).len ∙ (c.loop-table.invariant.under 0).len
-
 pub returns-then-t-ne0 : goal.returns-then-t-ne0
 unfolding root while_turn
 returns-then-t-ne0 c =
@@ -41,10 +37,6 @@ loop-table-preserved c =
 pub close_root-requires : goal.close_root-requires
 close_root-requires c =
     ((c.loop-table.invariant.under _).marked c.requires.0, c.loop-table.invariant.ready)
-
-pub shape_of-table : goal.shape_of-table
-shape_of-table c =
-    c.close_root.ensures.len ∙ (c.loop-table.invariant.under 0).len
 
 pub returns : goal.returns
 unfolding root while_turn

@@ -10,10 +10,6 @@ pub bump-t-requires : goal.bump-t-requires
 bump-t-requires c =
     c.requires
 
-pub shape_of-table-then-t-ne0 : goal.shape_of-table-then-t-ne0
-shape_of-table-then-t-ne0 c =
-    (c.bump-t.ensures.under 0).len
-
 pub returns-then-t-ne0 : goal.returns-then-t-ne0
 unfolding field_link
 returns-then-t-ne0 c =
@@ -27,18 +23,10 @@ pub bump-t-requires-then-k-eq-AWAIT : goal.bump-t-requires-then-k-eq-AWAIT
 bump-t-requires-then-k-eq-AWAIT c =
     (c.bump-t.ensures.under 0).ready c.if-t-ne0.false
 
-pub shape_of-table-then-t-ne0-2 : goal.shape_of-table-then-t-ne0-2
-shape_of-table-then-t-ne0-2 c =
-    (c.bump-t-then-k-eq-AWAIT.ensures.under 0).len ∙ (c.bump-t.ensures.under 0).len
-
 pub returns-then-t-ne0-2 : goal.returns-then-t-ne0-2
 unfolding field_link
 returns-then-t-ne0-2 c =
     record { under = λ m. both (c.bump-t.ensures.under _) c.if-t-ne0.false (look c.peek-k.ensures (if_yes (eq-eqb _ _ c.if-k-eq-AWAIT.true) (cut (c.bump-t-then-k-eq-AWAIT.ensures.under _) c.if-t-ne0-2.true))) }
-
-pub shape_of-table-then-k-eq-AWAIT : goal.shape_of-table-then-k-eq-AWAIT
-shape_of-table-then-k-eq-AWAIT c =
-    (c.bump-t-then-k-eq-AWAIT.ensures.under 0).len ∙ (c.bump-t.ensures.under 0).len
 
 pub returns-then-k-eq-AWAIT : goal.returns-then-k-eq-AWAIT
 unfolding field_link
@@ -49,18 +37,10 @@ pub path-t-requires : goal.path-t-requires
 path-t-requires c =
     (c.bump-t.ensures.under 0).ready c.if-t-ne0.false
 
-pub shape_of-table-then-t-ne0-3 : goal.shape_of-table-then-t-ne0-3
-shape_of-table-then-t-ne0-3 c =
-    (c.path-t.ensures.under 0).len ∙ (c.bump-t.ensures.under 0).len
-
 pub returns-then-t-ne0-3 : goal.returns-then-t-ne0-3
 unfolding field_link
 returns-then-t-ne0-3 c =
     record { under = λ m. both (c.bump-t.ensures.under _) c.if-t-ne0.false (look c.peek-k.ensures (if_no (ne_eqb _ _ c.if-k-eq-AWAIT.false) (if_yes (sym c.is_path_component.ensures ∙ c.if-is_path_component.true) (cut (c.path-t.ensures.under _) c.if-t-ne0-3.true)))) }
-
-pub shape_of-table-then-is_path_component : goal.shape_of-table-then-is_path_component
-shape_of-table-then-is_path_component c =
-    (c.path-t.ensures.under 0).len ∙ (c.bump-t.ensures.under 0).len
 
 pub returns-then-is_path_component : goal.returns-then-is_path_component
 unfolding field_link
@@ -71,27 +51,15 @@ pub bump-t-requires-then-k-eq-NUMBER : goal.bump-t-requires-then-k-eq-NUMBER
 bump-t-requires-then-k-eq-NUMBER c =
     (c.bump-t.ensures.under 0).ready c.if-t-ne0.false
 
-pub shape_of-table-then-t-ne0-4 : goal.shape_of-table-then-t-ne0-4
-shape_of-table-then-t-ne0-4 c =
-    (c.bump-t-then-k-eq-NUMBER.ensures.under 0).len ∙ (c.bump-t.ensures.under 0).len
-
 pub returns-then-t-ne0-4 : goal.returns-then-t-ne0-4
 unfolding field_link
 returns-then-t-ne0-4 c =
     record { under = λ m. both (c.bump-t.ensures.under _) c.if-t-ne0.false (look c.peek-k.ensures (if_no (ne_eqb _ _ c.if-k-eq-AWAIT.false) (if_no (sym c.is_path_component.ensures ∙ c.if-is_path_component.false) (if_yes (eq-eqb _ _ c.if-k-eq-NUMBER.true) (cut (c.bump-t-then-k-eq-NUMBER.ensures.under _) c.if-t-ne0-4.true))))) }
 
-pub shape_of-table-then-k-eq-NUMBER : goal.shape_of-table-then-k-eq-NUMBER
-shape_of-table-then-k-eq-NUMBER c =
-    (c.bump-t-then-k-eq-NUMBER.ensures.under 0).len ∙ (c.bump-t.ensures.under 0).len
-
 pub returns-then-k-eq-NUMBER : goal.returns-then-k-eq-NUMBER
 unfolding field_link
 returns-then-k-eq-NUMBER c =
     record { under = λ m. both (c.bump-t.ensures.under _) c.if-t-ne0.false (look c.peek-k.ensures (if_no (ne_eqb _ _ c.if-k-eq-AWAIT.false) (if_no (sym c.is_path_component.ensures ∙ c.if-is_path_component.false) (if_yes (eq-eqb _ _ c.if-k-eq-NUMBER.true) (both (c.bump-t-then-k-eq-NUMBER.ensures.under _) c.if-t-ne0-4.false (answered ((c.bump-t-then-k-eq-NUMBER.ensures.under 0).ready c.if-t-ne0-4.false))))))) }
-
-pub shape_of-table : goal.shape_of-table
-shape_of-table c =
-    (c.bump-t.ensures.under 0).len
 
 pub returns : goal.returns
 unfolding field_link

@@ -12,17 +12,9 @@ pub close_at-t-requires : goal.close_at-t-requires
 close_at-t-requires c =
     (c.requires.marked c.if-tape-ne0.false, c.requires.ready c.if-tape-ne0.false)
 
-pub shape_of-table-then-t-ne0 : goal.shape_of-table-then-t-ne0
-shape_of-table-then-t-ne0 c =
-    c.close_at-t.ensures.len
-
 pub returns-then-t-ne0 : goal.returns-then-t-ne0
 returns-then-t-ne0 c =
     record { on = λ z. cut c.close_at-t.ensures c.if-t-ne0.true; off = λ z. absurd (z c.if-tape-ne0.false) }
-
-pub shape_of-table : goal.shape_of-table
-shape_of-table c =
-    c.close_at-t.ensures.len
 
 pub returns : goal.returns
 returns c =

@@ -1,17 +1,12 @@
 -- Written by tools/walk.py from the code and its program; docs/CONTRIBUTING.md says how.
 -- Assumes nothing.
-use mathlib.Core.Path.{◌∙◌}
 use Rattle.definition.specs.Grammar.{macro_call}
-use Rattle.tape.specs.Steps.{step_marked, held, followed, follows_len, both, cut}
+use Rattle.tape.specs.Steps.{step_marked, held, followed, both, cut}
 use Rattle.grammar.proofs.steps.macro_call.Goals as goal
 
 pub bump-t-requires : goal.bump-t-requires
 bump-t-requires c =
     c.requires.1
-
-pub shape_of-table-then-t-ne0 : goal.shape_of-table-then-t-ne0
-shape_of-table-then-t-ne0 c =
-    (c.bump-t.ensures.under 0).len
 
 pub returns-then-t-ne0 : goal.returns-then-t-ne0
 unfolding macro_call
@@ -22,10 +17,6 @@ pub bump-t-requires-2 : goal.bump-t-requires-2
 bump-t-requires-2 c =
     (c.bump-t.ensures.under 0).ready c.if-t-ne0.false
 
-pub shape_of-table-then-t-ne0-2 : goal.shape_of-table-then-t-ne0-2
-shape_of-table-then-t-ne0-2 c =
-    (c.bump-t-2.ensures.under 0).len ∙ (c.bump-t.ensures.under 0).len
-
 pub returns-then-t-ne0-2 : goal.returns-then-t-ne0-2
 unfolding macro_call
 returns-then-t-ne0-2 c =
@@ -34,10 +25,6 @@ returns-then-t-ne0-2 c =
 pub token_stream-t-requires : goal.token_stream-t-requires
 token_stream-t-requires c =
     (c.bump-t-2.ensures.under 0).ready c.if-t-ne0-2.false
-
-pub shape_of-table-then-t-ne0-3 : goal.shape_of-table-then-t-ne0-3
-shape_of-table-then-t-ne0-3 c =
-    (c.token_stream-t.ensures.under 0).len ∙ ((c.bump-t-2.ensures.under 0).len ∙ (c.bump-t.ensures.under 0).len)
 
 pub returns-then-t-ne0-3 : goal.returns-then-t-ne0-3
 unfolding macro_call
@@ -51,10 +38,6 @@ bump-t-requires-3 c =
 pub finish-requires : goal.finish-requires
 finish-requires c =
     held (c.bump-t-3.ensures.under _) (step_marked (c.token_stream-t.ensures.under _) c.if-t-ne0-3.false (step_marked (c.bump-t-2.ensures.under _) c.if-t-ne0-2.false (step_marked (c.bump-t.ensures.under _) c.if-t-ne0.false c.requires.0)))
-
-pub shape_of-table : goal.shape_of-table
-shape_of-table c =
-    follows_len c.finish.ensures ∙ ((c.bump-t-3.ensures.under 0).len ∙ ((c.token_stream-t.ensures.under 0).len ∙ ((c.bump-t-2.ensures.under 0).len ∙ (c.bump-t.ensures.under 0).len)))
 
 pub returns : goal.returns
 unfolding macro_call

@@ -1,6 +1,5 @@
 -- Written by tools/walk.py from the code and its program; docs/CONTRIBUTING.md says how.
 -- Assumes nothing.
-use mathlib.Core.Path.{◌∙◌}
 use Rattle.definition.specs.Grammar.{operator}
 use Rattle.tape.specs.Steps.{marked_now, step_marked, both, cut, scoped, unscoped}
 use Rattle.grammar.proofs.steps.operator.Goals as goal
@@ -8,10 +7,6 @@ use Rattle.grammar.proofs.steps.operator.Goals as goal
 pub mark-t-requires : goal.mark-t-requires
 mark-t-requires c =
     c.requires
-
-pub shape_of-table-then-t-ne0 : goal.shape_of-table-then-t-ne0
-shape_of-table-then-t-ne0 c =
-    (c.mark-t.ensures.under 0).len
 
 pub returns-then-t-ne0 : goal.returns-then-t-ne0
 unfolding operator
@@ -22,10 +17,6 @@ pub advance-t-requires : goal.advance-t-requires
 advance-t-requires c =
     (c.mark-t.ensures.under 0).ready c.if-t-ne0.false
 
-pub shape_of-table-then-t-ne0-2 : goal.shape_of-table-then-t-ne0-2
-shape_of-table-then-t-ne0-2 c =
-    (c.advance-t.ensures.under 0).len ∙ (c.mark-t.ensures.under 0).len
-
 pub returns-then-t-ne0-2 : goal.returns-then-t-ne0-2
 unfolding operator
 returns-then-t-ne0-2 c =
@@ -33,11 +24,7 @@ returns-then-t-ne0-2 c =
 
 pub close_at-requires : goal.close_at-requires
 close_at-requires c =
-    (step_marked (c.advance-t.ensures.under _) c.if-t-ne0-2.false (marked_now), (c.advance-t.ensures.under 0).ready c.if-t-ne0-2.false)
-
-pub shape_of-table : goal.shape_of-table
-shape_of-table c =
-    c.close_at.ensures.len ∙ ((c.advance-t.ensures.under 0).len ∙ (c.mark-t.ensures.under 0).len)
+    (step_marked (c.advance-t.ensures.under _) c.if-t-ne0-2.false marked_now, (c.advance-t.ensures.under 0).ready c.if-t-ne0-2.false)
 
 pub returns : goal.returns
 unfolding operator

@@ -10,10 +10,6 @@ pub recovery-requires : goal.recovery-requires
 recovery-requires c =
     c.requires
 
-pub shape_of-table-then-recovers : goal.shape_of-table-then-recovers
-shape_of-table-then-recovers c =
-    (c.recovery.ensures.under 0).len
-
 pub returns-then-recovers : goal.returns-then-recovers
 unfolding recover
 returns-then-recovers c =

@@ -24,10 +24,6 @@ pub bump-t-requires : goal.bump-t-requires
 bump-t-requires c =
     c.loop-table.invariant.ready
 
-pub shape_of-table-then-t-ne0 : goal.shape_of-table-then-t-ne0
-shape_of-table-then-t-ne0 c =
-    (c.bump-t.ensures.under 0).len ∙ (c.loop-table.invariant.under 0).len
-
 pub returns-then-t-ne0 : goal.returns-then-t-ne0
 unfolding recovery while_turn
 returns-then-t-ne0 c =
@@ -41,10 +37,6 @@ pub loop-table-preserved : goal.loop-table-preserved
 unfolding recovery while_turn
 loop-table-preserved c =
     record { ready = (c.bump-t.ensures.under 0).ready c.if-t-ne0.false; under = λ m. inv_again (c.loop-table.invariant.under m) (ask_second c.peek.ensures c.peek_second.ensures (if_yes (sym c.is_stmt_recovering.ensures ∙ c.loop-table-test.true) (both (c.bump-t.ensures.under _) c.if-t-ne0.false (nothing ((c.bump-t.ensures.under 0).ready c.if-t-ne0.false))))) c.if-t-ne0.false (goes_some (c.bump-t.ensures.under 0) c.if-t-ne0.false c.peek.ensures (recovering_some _ _ (sym c.is_stmt_recovering.ensures ∙ c.loop-table-test.true)) bump_further) }
-
-pub shape_of-table : goal.shape_of-table
-shape_of-table c =
-    (c.loop-table.invariant.under 0).len
 
 pub returns : goal.returns
 unfolding recovery while_turn

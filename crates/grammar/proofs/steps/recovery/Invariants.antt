@@ -6,7 +6,7 @@ use Rattle.grammar.proofs.steps.recovery.Given as goal
 
 abbrev pub invariant-loop-table : goal.invariant-loop-table
 invariant-loop-table l =
-    Loop (recovery) (recovery) l.initial.t l.t l.kinds l.lens l.initial.table l.table
+    Loop recovery recovery l.initial.t l.t l.kinds l.lens l.initial.table l.table
 
 abbrev pub decreases-loop-table : goal.decreases-loop-table
 decreases-loop-table l =

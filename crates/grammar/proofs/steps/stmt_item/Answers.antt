@@ -1,8 +1,8 @@
 -- Written by tools/walk.py from the code and its program; docs/CONTRIBUTING.md says how.
 -- Assumes nothing.
 use mathlib.Core.Path.{refl}
-use Rattle.tape.specs.Steps.{both, cut, answered}
 use Rattle.definition.specs.Grammar.{stmt_item}
+use Rattle.tape.specs.Steps.{both, cut, answered}
 use Rattle.grammar.proofs.steps.stmt_item.Goals as goal
 
 pub returns-then-tape-ne0 : goal.returns-then-tape-ne0
@@ -13,18 +13,10 @@ pub close_at-t-requires : goal.close_at-t-requires
 close_at-t-requires c =
     (c.requires.marked c.if-tape-ne0.false, c.requires.ready c.if-tape-ne0.false)
 
-pub shape_of-table-then-t-ne0 : goal.shape_of-table-then-t-ne0
-shape_of-table-then-t-ne0 c =
-    c.close_at-t.ensures.len
-
 pub returns-then-t-ne0 : goal.returns-then-t-ne0
 unfolding stmt_item
 returns-then-t-ne0 c =
     record { on = λ z. cut c.close_at-t.ensures c.if-t-ne0.true; off = λ z. absurd (z c.if-tape-ne0.false) }
-
-pub shape_of-table : goal.shape_of-table
-shape_of-table c =
-    c.close_at-t.ensures.len
 
 pub returns : goal.returns
 unfolding stmt_item

@@ -1,3 +1,4 @@
+-- Written by tools/walk.py from the code and its program; docs/CONTRIBUTING.md says how.
 -- Assumes nothing.
 use mathlib.Core.Path.{sym, ◌∙◌}
 use native.Mathlib.Omega.{arith}
@@ -24,10 +25,6 @@ pub item_use-item_use_text-t-requires : goal.item_use-item_use_text-t-requires
 item_use-item_use_text-t-requires t c =
     (omega (arith, c.decreases, c.if-left-eq0.false), deep c.requires)
 
-pub item_use-shape_of-table : goal.item_use-shape_of-table
-item_use-shape_of-table t c =
-    (c.item_use_text-t.ensures.under 0).len
-
 pub item_use-returns : goal.item_use-returns
 unfolding item_use grammar
 item_use-returns t c =
@@ -36,10 +33,6 @@ item_use-returns t c =
 pub item_use_text-bump-t-requires : goal.item_use_text-bump-t-requires
 item_use_text-bump-t-requires t c =
     c.requires
-
-pub item_use_text-shape_of-table-then-t-ne0 : goal.item_use_text-shape_of-table-then-t-ne0
-item_use_text-shape_of-table-then-t-ne0 t c =
-    (c.bump-t.ensures.under 0).len
 
 pub item_use_text-returns-then-t-ne0 : goal.item_use_text-returns-then-t-ne0
 unfolding item_use_text
@@ -50,10 +43,6 @@ pub item_use_text-use_parts-requires : goal.item_use_text-use_parts-requires
 item_use_text-use_parts-requires t c =
     (omega (arith, c.decreases, (c.bump-t.ensures.under 0).left), (c.bump-t.ensures.under 0).ready c.if-t-ne0.false)
 
-pub item_use_text-shape_of-table : goal.item_use_text-shape_of-table
-item_use_text-shape_of-table t c =
-    (c.use_parts.ensures.under 0).len ∙ (c.bump-t.ensures.under 0).len
-
 pub item_use_text-returns : goal.item_use_text-returns
 unfolding item_use_text
 item_use_text-returns t c =
@@ -62,10 +51,6 @@ item_use_text-returns t c =
 pub use_group-mark-t-requires : goal.use_group-mark-t-requires
 use_group-mark-t-requires t c =
     c.requires
-
-pub use_group-shape_of-table-then-t-ne0 : goal.use_group-shape_of-table-then-t-ne0
-use_group-shape_of-table-then-t-ne0 t c =
-    (c.mark-t.ensures.under 0).len
 
 pub use_group-returns-then-t-ne0 : goal.use_group-returns-then-t-ne0
 unfolding use_group
@@ -76,10 +61,6 @@ pub use_group-bump-t-requires : goal.use_group-bump-t-requires
 use_group-bump-t-requires t c =
     (c.mark-t.ensures.under 0).ready c.if-t-ne0.false
 
-pub use_group-shape_of-table-then-t-ne0-2 : goal.use_group-shape_of-table-then-t-ne0-2
-use_group-shape_of-table-then-t-ne0-2 t c =
-    (c.bump-t.ensures.under 0).len ∙ (c.mark-t.ensures.under 0).len
-
 pub use_group-returns-then-t-ne0-2 : goal.use_group-returns-then-t-ne0-2
 unfolding use_group
 use_group-returns-then-t-ne0-2 t c =
@@ -88,10 +69,6 @@ use_group-returns-then-t-ne0-2 t c =
 pub use_group-use_paths-t-requires : goal.use_group-use_paths-t-requires
 use_group-use_paths-t-requires t c =
     (omega (arith, c.decreases, (c.mark-t.ensures.under 0).left, (c.bump-t.ensures.under 0).left), (c.bump-t.ensures.under 0).ready c.if-t-ne0-2.false)
-
-pub use_group-shape_of-table-then-t-ne0-3 : goal.use_group-shape_of-table-then-t-ne0-3
-use_group-shape_of-table-then-t-ne0-3 t c =
-    (c.use_paths-t.ensures.under 0).len ∙ ((c.bump-t.ensures.under 0).len ∙ (c.mark-t.ensures.under 0).len)
 
 pub use_group-returns-then-t-ne0-3 : goal.use_group-returns-then-t-ne0-3
 unfolding use_group
@@ -102,10 +79,6 @@ pub use_group-bump_if-t-requires : goal.use_group-bump_if-t-requires
 use_group-bump_if-t-requires t c =
     (c.use_paths-t.ensures.under 0).ready c.if-t-ne0-3.false
 
-pub use_group-shape_of-table-then-t-ne0-4 : goal.use_group-shape_of-table-then-t-ne0-4
-use_group-shape_of-table-then-t-ne0-4 t c =
-    (c.bump_if-t.ensures.under 0).len ∙ ((c.use_paths-t.ensures.under 0).len ∙ ((c.bump-t.ensures.under 0).len ∙ (c.mark-t.ensures.under 0).len))
-
 pub use_group-returns-then-t-ne0-4 : goal.use_group-returns-then-t-ne0-4
 unfolding use_group
 use_group-returns-then-t-ne0-4 t c =
@@ -113,11 +86,7 @@ use_group-returns-then-t-ne0-4 t c =
 
 pub use_group-close_at-requires : goal.use_group-close_at-requires
 use_group-close_at-requires t c =
-    (step_marked (c.bump_if-t.ensures.under _) c.if-t-ne0-4.false (step_marked (c.use_paths-t.ensures.under _) c.if-t-ne0-3.false (step_marked (c.bump-t.ensures.under _) c.if-t-ne0-2.false (marked_now))), (c.bump_if-t.ensures.under 0).ready c.if-t-ne0-4.false)
-
-pub use_group-shape_of-table : goal.use_group-shape_of-table
-use_group-shape_of-table t c =
-    c.close_at.ensures.len ∙ ((c.bump_if-t.ensures.under 0).len ∙ ((c.use_paths-t.ensures.under 0).len ∙ ((c.bump-t.ensures.under 0).len ∙ (c.mark-t.ensures.under 0).len)))
+    (step_marked (c.bump_if-t.ensures.under _) c.if-t-ne0-4.false (step_marked (c.use_paths-t.ensures.under _) c.if-t-ne0-3.false (step_marked (c.bump-t.ensures.under _) c.if-t-ne0-2.false marked_now)), (c.bump_if-t.ensures.under 0).ready c.if-t-ne0-4.false)
 
 pub use_group-returns : goal.use_group-returns
 unfolding use_group
@@ -128,10 +97,6 @@ pub use_item-mark-t-requires : goal.use_item-mark-t-requires
 use_item-mark-t-requires t c =
     c.requires
 
-pub use_item-shape_of-table-then-t-ne0 : goal.use_item-shape_of-table-then-t-ne0
-use_item-shape_of-table-then-t-ne0 t c =
-    (c.mark-t.ensures.under 0).len
-
 pub use_item-returns-then-t-ne0 : goal.use_item-returns-then-t-ne0
 unfolding use_item
 use_item-returns-then-t-ne0 t c =
@@ -141,10 +106,6 @@ pub use_item-item_use-t-requires : goal.use_item-item_use-t-requires
 use_item-item_use-t-requires t c =
     (omega (arith, c.decreases, (c.mark-t.ensures.under 0).left), (c.mark-t.ensures.under 0).ready c.if-t-ne0.false)
 
-pub use_item-shape_of-table-then-t-ne0-2 : goal.use_item-shape_of-table-then-t-ne0-2
-use_item-shape_of-table-then-t-ne0-2 t c =
-    (c.item_use-t.ensures.under 0).len ∙ (c.mark-t.ensures.under 0).len
-
 pub use_item-returns-then-t-ne0-2 : goal.use_item-returns-then-t-ne0-2
 unfolding use_item
 use_item-returns-then-t-ne0-2 t c =
@@ -152,11 +113,7 @@ use_item-returns-then-t-ne0-2 t c =
 
 pub use_item-close_at-requires : goal.use_item-close_at-requires
 use_item-close_at-requires t c =
-    (step_marked (c.item_use-t.ensures.under _) c.if-t-ne0-2.false (marked_now), (c.item_use-t.ensures.under 0).ready c.if-t-ne0-2.false)
-
-pub use_item-shape_of-table : goal.use_item-shape_of-table
-use_item-shape_of-table t c =
-    c.close_at.ensures.len ∙ ((c.item_use-t.ensures.under 0).len ∙ (c.mark-t.ensures.under 0).len)
+    (step_marked (c.item_use-t.ensures.under _) c.if-t-ne0-2.false marked_now, (c.item_use-t.ensures.under 0).ready c.if-t-ne0-2.false)
 
 pub use_item-returns : goal.use_item-returns
 unfolding use_item
@@ -176,10 +133,6 @@ pub use_parts-bump-t-requires : goal.use_parts-bump-t-requires
 use_parts-bump-t-requires t c =
     c.loop-table.invariant.ready
 
-pub use_parts-shape_of-table-then-t-ne0 : goal.use_parts-shape_of-table-then-t-ne0
-use_parts-shape_of-table-then-t-ne0 t c =
-    (c.bump-t.ensures.under 0).len ∙ (c.loop-table.invariant.under 0).len
-
 pub use_parts-returns-then-t-ne0 : goal.use_parts-returns-then-t-ne0
 unfolding use_parts item_use_turn
 use_parts-returns-then-t-ne0 t c =
@@ -197,10 +150,6 @@ use_parts-loop-table-preserved-then-is_use_part t c =
 pub use_parts-use_group-t-requires : goal.use_parts-use_group-t-requires
 use_parts-use_group-t-requires t c =
     (omega (arith, c.decreases, (c.loop-table.invariant.under 0).left), c.loop-table.invariant.ready)
-
-pub use_parts-shape_of-table-then-t-ne0-2 : goal.use_parts-shape_of-table-then-t-ne0-2
-use_parts-shape_of-table-then-t-ne0-2 t c =
-    (c.use_group-t.ensures.under 0).len ∙ (c.loop-table.invariant.under 0).len
 
 pub use_parts-returns-then-t-ne0-2 : goal.use_parts-returns-then-t-ne0-2
 unfolding use_parts item_use_turn
@@ -220,10 +169,6 @@ pub use_parts-bump-t-requires-then-k-eq-AS : goal.use_parts-bump-t-requires-then
 use_parts-bump-t-requires-then-k-eq-AS t c =
     c.loop-table.invariant.ready
 
-pub use_parts-shape_of-table-then-t-ne0-3 : goal.use_parts-shape_of-table-then-t-ne0-3
-use_parts-shape_of-table-then-t-ne0-3 t c =
-    (c.bump-t-then-k-eq-AS.ensures.under 0).len ∙ (c.loop-table.invariant.under 0).len
-
 pub use_parts-returns-then-t-ne0-3 : goal.use_parts-returns-then-t-ne0-3
 unfolding use_parts item_use_turn
 use_parts-returns-then-t-ne0-3 t c =
@@ -232,10 +177,6 @@ use_parts-returns-then-t-ne0-3 t c =
 pub use_parts-bump_if-t-requires : goal.use_parts-bump_if-t-requires
 use_parts-bump_if-t-requires t c =
     (c.bump-t-then-k-eq-AS.ensures.under 0).ready c.if-t-ne0-3.false
-
-pub use_parts-shape_of-table-then-t-ne0-4 : goal.use_parts-shape_of-table-then-t-ne0-4
-use_parts-shape_of-table-then-t-ne0-4 t c =
-    (c.bump_if-t.ensures.under 0).len ∙ ((c.bump-t-then-k-eq-AS.ensures.under 0).len ∙ (c.loop-table.invariant.under 0).len)
 
 pub use_parts-returns-then-t-ne0-4 : goal.use_parts-returns-then-t-ne0-4
 unfolding use_parts item_use_turn
@@ -251,10 +192,6 @@ unfolding use_parts item_use_turn
 use_parts-loop-table-preserved t c =
     record { ready = (c.bump_if-t.ensures.under 0).ready c.if-t-ne0-4.false; under = λ m. inv_again (c.loop-table.invariant.under m) (look c.peek-k.ensures (if_no (sym c.is_use_part.ensures ∙ c.if-is_use_part.false) (if_no (ne_eqb _ _ c.if-k-eq-BRACE.false) (if_yes (eq-eqb _ _ c.if-k-eq-AS.true) (both (c.bump-t-then-k-eq-AS.ensures.under _) c.if-t-ne0-3.false (both (ends (c.bump_if-t.ensures.under _)) c.if-t-ne0-4.false (nothing ((c.bump_if-t.ensures.under 0).ready c.if-t-ne0-4.false)))))))) c.if-t-ne0-4.false (and_on (goes_some (c.bump-t-then-k-eq-AS.ensures.under 0) c.if-t-ne0-3.false c.peek-k.ensures (λ z. omega (arith, c.if-k-eq-AS.true)) bump_further) (c.bump_if-t.ensures.under 0) c.if-t-ne0-4.false) }
 
-pub use_parts-shape_of-table-in-loop-table : goal.use_parts-shape_of-table-in-loop-table
-use_parts-shape_of-table-in-loop-table t c =
-    (c.loop-table.invariant.under 0).len
-
 pub use_parts-returns-in-loop-table : goal.use_parts-returns-in-loop-table
 unfolding use_parts item_use_turn
 use_parts-returns-in-loop-table t c =
@@ -264,10 +201,6 @@ pub use_path-use_item-t-requires : goal.use_path-use_item-t-requires
 use_path-use_item-t-requires t c =
     (omega (arith, c.decreases), c.requires)
 
-pub use_path-shape_of-table-then-t-ne0 : goal.use_path-shape_of-table-then-t-ne0
-use_path-shape_of-table-then-t-ne0 t c =
-    (c.use_item-t.ensures.under 0).len
-
 pub use_path-returns-then-t-ne0 : goal.use_path-returns-then-t-ne0
 unfolding use_path
 use_path-returns-then-t-ne0 t c =
@@ -276,10 +209,6 @@ use_path-returns-then-t-ne0 t c =
 pub use_path-bump_while-requires : goal.use_path-bump_while-requires
 use_path-bump_while-requires t c =
     (omega arith, (c.use_item-t.ensures.under 0).ready c.if-t-ne0.false)
-
-pub use_path-shape_of-table : goal.use_path-shape_of-table
-use_path-shape_of-table t c =
-    (c.bump_while.ensures.under 0).len ∙ (c.use_item-t.ensures.under 0).len
 
 pub use_path-returns : goal.use_path-returns
 unfolding use_path
@@ -299,10 +228,6 @@ pub use_paths-use_path-t-requires : goal.use_paths-use_path-t-requires
 use_paths-use_path-t-requires t c =
     (omega (arith, c.decreases, (c.loop-table.invariant.under 0).left), c.loop-table.invariant.ready)
 
-pub use_paths-shape_of-table-then-t-ne0 : goal.use_paths-shape_of-table-then-t-ne0
-use_paths-shape_of-table-then-t-ne0 t c =
-    (c.use_path-t.ensures.under 0).len ∙ (c.loop-table.invariant.under 0).len
-
 pub use_paths-returns-then-t-ne0 : goal.use_paths-returns-then-t-ne0
 unfolding use_paths while_turn
 use_paths-returns-then-t-ne0 t c =
@@ -316,10 +241,6 @@ pub use_paths-loop-table-preserved : goal.use_paths-loop-table-preserved
 unfolding use_paths while_turn
 use_paths-loop-table-preserved t c =
     record { ready = (c.use_path-t.ensures.under 0).ready c.if-t-ne0.false; under = λ m. inv_again (c.loop-table.invariant.under m) (ask c.peek.ensures (if_yes (sym c.is_use_path.ensures ∙ c.loop-table-test.true) (both (c.use_path-t.ensures.under _) c.if-t-ne0.false (nothing ((c.use_path-t.ensures.under 0).ready c.if-t-ne0.false))))) c.if-t-ne0.false (goes_some (c.use_path-t.ensures.under 0) c.if-t-ne0.false c.peek.ensures (use_path_some _ (sym c.is_use_path.ensures ∙ c.loop-table-test.true)) use_path_further) }
-
-pub use_paths-shape_of-table : goal.use_paths-shape_of-table
-use_paths-shape_of-table t c =
-    (c.loop-table.invariant.under 0).len
 
 pub use_paths-returns : goal.use_paths-returns
 unfolding use_paths while_turn

@@ -1,3 +1,4 @@
+-- Written by tools/walk.py from the code and its program; docs/CONTRIBUTING.md says how.
 -- Assumes nothing.
 use Prim.Native.Nat.{◌+◌, ◌*◌}
 use Rattle.definition.specs.Grammar.{use_parts, use_paths}
@@ -27,7 +28,7 @@ decreases-use_paths l = 7 * l.tape.left + 3
 
 abbrev pub invariant-use_parts-loop-table : goal.invariant-use_parts-loop-table
 invariant-use_parts-loop-table l =
-    Loop (use_parts) (use_parts) l.initial.t l.t l.kinds l.lens l.initial.table l.table
+    Loop use_parts use_parts l.initial.t l.t l.kinds l.lens l.initial.table l.table
 
 abbrev pub decreases-use_parts-loop-table : goal.decreases-use_parts-loop-table
 decreases-use_parts-loop-table l =
@@ -35,7 +36,7 @@ decreases-use_parts-loop-table l =
 
 abbrev pub invariant-use_paths-loop-table : goal.invariant-use_paths-loop-table
 invariant-use_paths-loop-table l =
-    Loop (use_paths) (use_paths) l.initial.t l.t l.kinds l.lens l.initial.table l.table
+    Loop use_paths use_paths l.initial.t l.t l.kinds l.lens l.initial.table l.table
 
 abbrev pub decreases-use_paths-loop-table : goal.decreases-use_paths-loop-table
 decreases-use_paths-loop-table l =

@@ -13,10 +13,6 @@ pub field_body-requires : goal.field_body-requires
 field_body-requires c =
     c.requires
 
-pub shape_of-table-then-k-eq-BRACE : goal.shape_of-table-then-k-eq-BRACE
-shape_of-table-then-k-eq-BRACE c =
-    (c.field_body.ensures.under 0).len
-
 pub returns-then-k-eq-BRACE : goal.returns-then-k-eq-BRACE
 unfolding any_body
 returns-then-k-eq-BRACE c =
@@ -26,10 +22,6 @@ pub field_body-requires-then-k-eq-PAREN : goal.field_body-requires-then-k-eq-PAR
 field_body-requires-then-k-eq-PAREN c =
     c.requires
 
-pub shape_of-table-then-k-eq-PAREN : goal.shape_of-table-then-k-eq-PAREN
-shape_of-table-then-k-eq-PAREN c =
-    (c.field_body-then-k-eq-PAREN.ensures.under 0).len
-
 pub returns-then-k-eq-PAREN : goal.returns-then-k-eq-PAREN
 unfolding any_body
 returns-then-k-eq-PAREN c =
@@ -38,10 +30,6 @@ returns-then-k-eq-PAREN c =
 pub empty-requires : goal.empty-requires
 empty-requires c =
     c.requires
-
-pub shape_of-table : goal.shape_of-table
-shape_of-table c =
-    (c.empty.ensures.under 0).len
 
 pub returns : goal.returns
 unfolding any_body

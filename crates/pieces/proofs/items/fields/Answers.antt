@@ -1,6 +1,5 @@
 -- Written by tools/walk.py from the code and its program; docs/CONTRIBUTING.md says how.
 -- Assumes nothing.
-use mathlib.Core.Path.{◌∙◌}
 use native.Mathlib.Omega.{arith}
 use borrow.Author.Tests.{eq-eqb, ne_eqb}
 use Rattle.definition.specs.Grammar.{fields, while_turn}
@@ -22,10 +21,6 @@ pub field-t-requires : goal.field-t-requires
 field-t-requires c =
     c.loop-table.invariant.ready
 
-pub shape_of-table-then-t-ne0 : goal.shape_of-table-then-t-ne0
-shape_of-table-then-t-ne0 c =
-    (c.field-t.ensures.under 0).len ∙ (c.loop-table.invariant.under 0).len
-
 pub returns-then-t-ne0 : goal.returns-then-t-ne0
 unfolding fields while_turn
 returns-then-t-ne0 c =
@@ -39,10 +34,6 @@ pub loop-table-preserved : goal.loop-table-preserved
 unfolding fields while_turn
 loop-table-preserved c =
     record { ready = (c.field-t.ensures.under 0).ready c.if-t-ne0.false; under = λ m. inv_again (c.loop-table.invariant.under m) (ask c.peek.ensures (if_yes (eq-eqb _ _ c.loop-table-test.true) (both (c.field-t.ensures.under _) c.if-t-ne0.false (nothing ((c.field-t.ensures.under 0).ready c.if-t-ne0.false))))) c.if-t-ne0.false (goes_some (c.field-t.ensures.under 0) c.if-t-ne0.false c.peek.ensures (λ z. omega (arith, c.loop-table-test.true)) field_further) }
-
-pub shape_of-table : goal.shape_of-table
-shape_of-table c =
-    (c.loop-table.invariant.under 0).len
 
 pub returns : goal.returns
 unfolding fields while_turn

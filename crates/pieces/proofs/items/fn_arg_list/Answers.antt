@@ -1,6 +1,5 @@
 -- Written by tools/walk.py from the code and its program; docs/CONTRIBUTING.md says how.
 -- Assumes nothing.
-use mathlib.Core.Path.{◌∙◌}
 use native.Mathlib.Omega.{arith}
 use Rattle.definition.specs.Grammar.{fn_arg_list}
 use Rattle.tape.specs.Steps.{marked_now, step_marked, both, cut, ends, scoped, unscoped}
@@ -9,10 +8,6 @@ use Rattle.pieces.proofs.items.fn_arg_list.Goals as goal
 pub mark-t-requires : goal.mark-t-requires
 mark-t-requires c =
     c.requires
-
-pub shape_of-table-then-t-ne0 : goal.shape_of-table-then-t-ne0
-shape_of-table-then-t-ne0 c =
-    (c.mark-t.ensures.under 0).len
 
 pub returns-then-t-ne0 : goal.returns-then-t-ne0
 unfolding fn_arg_list
@@ -23,10 +18,6 @@ pub bump-t-requires : goal.bump-t-requires
 bump-t-requires c =
     (c.mark-t.ensures.under 0).ready c.if-t-ne0.false
 
-pub shape_of-table-then-t-ne0-2 : goal.shape_of-table-then-t-ne0-2
-shape_of-table-then-t-ne0-2 c =
-    (c.bump-t.ensures.under 0).len ∙ (c.mark-t.ensures.under 0).len
-
 pub returns-then-t-ne0-2 : goal.returns-then-t-ne0-2
 unfolding fn_arg_list
 returns-then-t-ne0-2 c =
@@ -35,10 +26,6 @@ returns-then-t-ne0-2 c =
 pub bump_while-t-requires : goal.bump_while-t-requires
 bump_while-t-requires c =
     (omega arith, (c.bump-t.ensures.under 0).ready c.if-t-ne0-2.false)
-
-pub shape_of-table-then-t-ne0-3 : goal.shape_of-table-then-t-ne0-3
-shape_of-table-then-t-ne0-3 c =
-    (c.bump_while-t.ensures.under 0).len ∙ ((c.bump-t.ensures.under 0).len ∙ (c.mark-t.ensures.under 0).len)
 
 pub returns-then-t-ne0-3 : goal.returns-then-t-ne0-3
 unfolding fn_arg_list
@@ -49,10 +36,6 @@ pub pat_list-t-requires : goal.pat_list-t-requires
 pat_list-t-requires c =
     (c.bump_while-t.ensures.under 0).ready c.if-t-ne0-3.false
 
-pub shape_of-table-then-t-ne0-4 : goal.shape_of-table-then-t-ne0-4
-shape_of-table-then-t-ne0-4 c =
-    (c.pat_list-t.ensures.under 0).len ∙ ((c.bump_while-t.ensures.under 0).len ∙ ((c.bump-t.ensures.under 0).len ∙ (c.mark-t.ensures.under 0).len))
-
 pub returns-then-t-ne0-4 : goal.returns-then-t-ne0-4
 unfolding fn_arg_list
 returns-then-t-ne0-4 c =
@@ -62,10 +45,6 @@ pub bump_if-t-requires : goal.bump_if-t-requires
 bump_if-t-requires c =
     (c.pat_list-t.ensures.under 0).ready c.if-t-ne0-4.false
 
-pub shape_of-table-then-t-ne0-5 : goal.shape_of-table-then-t-ne0-5
-shape_of-table-then-t-ne0-5 c =
-    (c.bump_if-t.ensures.under 0).len ∙ ((c.pat_list-t.ensures.under 0).len ∙ ((c.bump_while-t.ensures.under 0).len ∙ ((c.bump-t.ensures.under 0).len ∙ (c.mark-t.ensures.under 0).len)))
-
 pub returns-then-t-ne0-5 : goal.returns-then-t-ne0-5
 unfolding fn_arg_list
 returns-then-t-ne0-5 c =
@@ -73,11 +52,7 @@ returns-then-t-ne0-5 c =
 
 pub close_at-requires : goal.close_at-requires
 close_at-requires c =
-    (step_marked (c.bump_if-t.ensures.under _) c.if-t-ne0-5.false (step_marked (c.pat_list-t.ensures.under _) c.if-t-ne0-4.false (step_marked (c.bump_while-t.ensures.under _) c.if-t-ne0-3.false (step_marked (c.bump-t.ensures.under _) c.if-t-ne0-2.false (marked_now)))), (c.bump_if-t.ensures.under 0).ready c.if-t-ne0-5.false)
-
-pub shape_of-table : goal.shape_of-table
-shape_of-table c =
-    c.close_at.ensures.len ∙ ((c.bump_if-t.ensures.under 0).len ∙ ((c.pat_list-t.ensures.under 0).len ∙ ((c.bump_while-t.ensures.under 0).len ∙ ((c.bump-t.ensures.under 0).len ∙ (c.mark-t.ensures.under 0).len))))
+    (step_marked (c.bump_if-t.ensures.under _) c.if-t-ne0-5.false (step_marked (c.pat_list-t.ensures.under _) c.if-t-ne0-4.false (step_marked (c.bump_while-t.ensures.under _) c.if-t-ne0-3.false (step_marked (c.bump-t.ensures.under _) c.if-t-ne0-2.false marked_now))), (c.bump_if-t.ensures.under 0).ready c.if-t-ne0-5.false)
 
 pub returns : goal.returns
 unfolding fn_arg_list

@@ -13,10 +13,6 @@ pub fn_arg_list-requires : goal.fn_arg_list-requires
 fn_arg_list-requires c =
     c.requires
 
-pub shape_of-table-then-peek-eq-PAREN : goal.shape_of-table-then-peek-eq-PAREN
-shape_of-table-then-peek-eq-PAREN c =
-    (c.fn_arg_list.ensures.under 0).len
-
 pub returns-then-peek-eq-PAREN : goal.returns-then-peek-eq-PAREN
 unfolding fn_args
 returns-then-peek-eq-PAREN c =

@@ -13,10 +13,6 @@ pub path-requires : goal.path-requires
 path-requires c =
     c.requires
 
-pub shape_of-table-then-is_path_component : goal.shape_of-table-then-is_path_component
-shape_of-table-then-is_path_component c =
-    (c.path.ensures.under 0).len
-
 pub returns-then-is_path_component : goal.returns-then-is_path_component
 unfolding impl_path
 returns-then-is_path_component c =

@@ -1,6 +1,5 @@
 -- Written by tools/walk.py from the code and its program; docs/CONTRIBUTING.md says how.
 -- Assumes nothing.
-use mathlib.Core.Path.{◌∙◌}
 use Rattle.definition.specs.Grammar.{item_struct}
 use Rattle.tape.specs.Steps.{both, cut, ends}
 use Rattle.pieces.proofs.items.item_struct.Goals as goal
@@ -8,10 +7,6 @@ use Rattle.pieces.proofs.items.item_struct.Goals as goal
 pub bump-t-requires : goal.bump-t-requires
 bump-t-requires c =
     c.requires
-
-pub shape_of-table-then-t-ne0 : goal.shape_of-table-then-t-ne0
-shape_of-table-then-t-ne0 c =
-    (c.bump-t.ensures.under 0).len
 
 pub returns-then-t-ne0 : goal.returns-then-t-ne0
 unfolding item_struct
@@ -22,10 +17,6 @@ pub bump_if-t-requires : goal.bump_if-t-requires
 bump_if-t-requires c =
     (c.bump-t.ensures.under 0).ready c.if-t-ne0.false
 
-pub shape_of-table-then-t-ne0-2 : goal.shape_of-table-then-t-ne0-2
-shape_of-table-then-t-ne0-2 c =
-    (c.bump_if-t.ensures.under 0).len ∙ (c.bump-t.ensures.under 0).len
-
 pub returns-then-t-ne0-2 : goal.returns-then-t-ne0-2
 unfolding item_struct
 returns-then-t-ne0-2 c =
@@ -34,10 +25,6 @@ returns-then-t-ne0-2 c =
 pub any_body-requires : goal.any_body-requires
 any_body-requires c =
     (c.bump_if-t.ensures.under 0).ready c.if-t-ne0-2.false
-
-pub shape_of-table : goal.shape_of-table
-shape_of-table c =
-    (c.any_body.ensures.under 0).len ∙ ((c.bump_if-t.ensures.under 0).len ∙ (c.bump-t.ensures.under 0).len)
 
 pub returns : goal.returns
 unfolding item_struct

@@ -1,6 +1,5 @@
 -- Written by tools/walk.py from the code and its program; docs/CONTRIBUTING.md says how.
 -- Assumes nothing.
-use mathlib.Core.Path.{◌∙◌}
 use Rattle.definition.specs.Grammar.{variant_item}
 use Rattle.tape.specs.Steps.{marked_now, step_marked, both, cut, scoped, unscoped}
 use Rattle.pieces.proofs.items.variant_item.Goals as goal
@@ -8,10 +7,6 @@ use Rattle.pieces.proofs.items.variant_item.Goals as goal
 pub mark-t-requires : goal.mark-t-requires
 mark-t-requires c =
     c.requires
-
-pub shape_of-table-then-t-ne0 : goal.shape_of-table-then-t-ne0
-shape_of-table-then-t-ne0 c =
-    (c.mark-t.ensures.under 0).len
 
 pub returns-then-t-ne0 : goal.returns-then-t-ne0
 unfolding variant_item
@@ -22,10 +17,6 @@ pub bump-t-requires : goal.bump-t-requires
 bump-t-requires c =
     (c.mark-t.ensures.under 0).ready c.if-t-ne0.false
 
-pub shape_of-table-then-t-ne0-2 : goal.shape_of-table-then-t-ne0-2
-shape_of-table-then-t-ne0-2 c =
-    (c.bump-t.ensures.under 0).len ∙ (c.mark-t.ensures.under 0).len
-
 pub returns-then-t-ne0-2 : goal.returns-then-t-ne0-2
 unfolding variant_item
 returns-then-t-ne0-2 c =
@@ -35,10 +26,6 @@ pub any_body-t-requires : goal.any_body-t-requires
 any_body-t-requires c =
     (c.bump-t.ensures.under 0).ready c.if-t-ne0-2.false
 
-pub shape_of-table-then-t-ne0-3 : goal.shape_of-table-then-t-ne0-3
-shape_of-table-then-t-ne0-3 c =
-    (c.any_body-t.ensures.under 0).len ∙ ((c.bump-t.ensures.under 0).len ∙ (c.mark-t.ensures.under 0).len)
-
 pub returns-then-t-ne0-3 : goal.returns-then-t-ne0-3
 unfolding variant_item
 returns-then-t-ne0-3 c =
@@ -46,11 +33,7 @@ returns-then-t-ne0-3 c =
 
 pub close_at-requires : goal.close_at-requires
 close_at-requires c =
-    (step_marked (c.any_body-t.ensures.under _) c.if-t-ne0-3.false (step_marked (c.bump-t.ensures.under _) c.if-t-ne0-2.false (marked_now)), (c.any_body-t.ensures.under 0).ready c.if-t-ne0-3.false)
-
-pub shape_of-table : goal.shape_of-table
-shape_of-table c =
-    c.close_at.ensures.len ∙ ((c.any_body-t.ensures.under 0).len ∙ ((c.bump-t.ensures.under 0).len ∙ (c.mark-t.ensures.under 0).len))
+    (step_marked (c.any_body-t.ensures.under _) c.if-t-ne0-3.false (step_marked (c.bump-t.ensures.under _) c.if-t-ne0-2.false marked_now), (c.any_body-t.ensures.under 0).ready c.if-t-ne0-3.false)
 
 pub returns : goal.returns
 unfolding variant_item

@@ -1,6 +1,5 @@
 -- Written by tools/walk.py from the code and its program; docs/CONTRIBUTING.md says how.
 -- Assumes nothing.
-use mathlib.Core.Path.{◌∙◌}
 use native.Mathlib.Omega.{arith}
 use borrow.Author.Tests.{eq-eqb, ne_eqb}
 use Rattle.definition.specs.Grammar.{variants, while_turn}
@@ -22,10 +21,6 @@ pub variant-t-requires : goal.variant-t-requires
 variant-t-requires c =
     c.loop-table.invariant.ready
 
-pub shape_of-table-then-t-ne0 : goal.shape_of-table-then-t-ne0
-shape_of-table-then-t-ne0 c =
-    (c.variant-t.ensures.under 0).len ∙ (c.loop-table.invariant.under 0).len
-
 pub returns-then-t-ne0 : goal.returns-then-t-ne0
 unfolding variants while_turn
 returns-then-t-ne0 c =
@@ -39,10 +34,6 @@ pub loop-table-preserved : goal.loop-table-preserved
 unfolding variants while_turn
 loop-table-preserved c =
     record { ready = (c.variant-t.ensures.under 0).ready c.if-t-ne0.false; under = λ m. inv_again (c.loop-table.invariant.under m) (ask c.peek.ensures (if_yes (eq-eqb _ _ c.loop-table-test.true) (both (c.variant-t.ensures.under _) c.if-t-ne0.false (nothing ((c.variant-t.ensures.under 0).ready c.if-t-ne0.false))))) c.if-t-ne0.false (goes_some (c.variant-t.ensures.under 0) c.if-t-ne0.false c.peek.ensures (λ z. omega (arith, c.loop-table-test.true)) variant_further) }
-
-pub shape_of-table : goal.shape_of-table
-shape_of-table c =
-    (c.loop-table.invariant.under 0).len
 
 pub returns : goal.returns
 unfolding variants while_turn

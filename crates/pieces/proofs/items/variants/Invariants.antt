@@ -6,7 +6,7 @@ use Rattle.pieces.proofs.items.variants.Given as goal
 
 abbrev pub invariant-loop-table : goal.invariant-loop-table
 invariant-loop-table l =
-    Loop (variants) (variants) l.initial.t l.t l.kinds l.lens l.initial.table l.table
+    Loop variants variants l.initial.t l.t l.kinds l.lens l.initial.table l.table
 
 abbrev pub decreases-loop-table : goal.decreases-loop-table
 decreases-loop-table l =

@@ -1,3 +1,4 @@
+-- Written by tools/walk.py from the code and its program; docs/CONTRIBUTING.md says how.
 -- Assumes nothing.
 use mathlib.Core.Path.{sym, ◌∙◌}
 use native.Mathlib.Omega.{arith}
@@ -13,10 +14,6 @@ pub generic_path-path-t-requires : goal.generic_path-path-t-requires
 generic_path-path-t-requires t c =
     (omega (arith, c.decreases), c.requires)
 
-pub generic_path-shape_of-table-then-t-ne0 : goal.generic_path-shape_of-table-then-t-ne0
-generic_path-shape_of-table-then-t-ne0 t c =
-    (c.path-t.ensures.under 0).len
-
 pub generic_path-returns-then-t-ne0 : goal.generic_path-returns-then-t-ne0
 unfolding generic_path
 generic_path-returns-then-t-ne0 t c =
@@ -25,10 +22,6 @@ generic_path-returns-then-t-ne0 t c =
 pub generic_path-bump_while-requires : goal.generic_path-bump_while-requires
 generic_path-bump_while-requires t c =
     (omega arith, (c.path-t.ensures.under 0).ready c.if-t-ne0.false)
-
-pub generic_path-shape_of-table : goal.generic_path-shape_of-table
-generic_path-shape_of-table t c =
-    (c.bump_while.ensures.under 0).len ∙ (c.path-t.ensures.under 0).len
 
 pub generic_path-returns : goal.generic_path-returns
 unfolding generic_path
@@ -48,10 +41,6 @@ pub generic_paths-generic_path-t-requires : goal.generic_paths-generic_path-t-re
 generic_paths-generic_path-t-requires t c =
     (omega (arith, c.decreases, (c.loop-table.invariant.under 0).left), c.loop-table.invariant.ready)
 
-pub generic_paths-shape_of-table-then-t-ne0 : goal.generic_paths-shape_of-table-then-t-ne0
-generic_paths-shape_of-table-then-t-ne0 t c =
-    (c.generic_path-t.ensures.under 0).len ∙ (c.loop-table.invariant.under 0).len
-
 pub generic_paths-returns-then-t-ne0 : goal.generic_paths-returns-then-t-ne0
 unfolding generic_paths while_turn
 generic_paths-returns-then-t-ne0 t c =
@@ -66,10 +55,6 @@ unfolding generic_paths while_turn
 generic_paths-loop-table-preserved t c =
     record { ready = (c.generic_path-t.ensures.under 0).ready c.if-t-ne0.false; under = λ m. inv_again (c.loop-table.invariant.under m) (ask c.peek.ensures (if_yes (sym c.is_path_component.ensures ∙ c.loop-table-test.true) (both (c.generic_path-t.ensures.under _) c.if-t-ne0.false (nothing ((c.generic_path-t.ensures.under 0).ready c.if-t-ne0.false))))) c.if-t-ne0.false (goes_saw (c.generic_path-t.ensures.under 0) c.if-t-ne0.false c.peek.ensures is_path_component (sym c.is_path_component.ensures ∙ c.loop-table-test.true) generic_path_further) }
 
-pub generic_paths-shape_of-table : goal.generic_paths-shape_of-table
-generic_paths-shape_of-table t c =
-    (c.loop-table.invariant.under 0).len
-
 pub generic_paths-returns : goal.generic_paths-returns
 unfolding generic_paths while_turn
 generic_paths-returns t c =
@@ -78,10 +63,6 @@ generic_paths-returns t c =
 pub generics-mark-t-requires : goal.generics-mark-t-requires
 generics-mark-t-requires t c =
     c.requires
-
-pub generics-shape_of-table-then-t-ne0 : goal.generics-shape_of-table-then-t-ne0
-generics-shape_of-table-then-t-ne0 t c =
-    (c.mark-t.ensures.under 0).len
 
 pub generics-returns-then-t-ne0 : goal.generics-returns-then-t-ne0
 unfolding generics
@@ -92,10 +73,6 @@ pub generics-bump-t-requires : goal.generics-bump-t-requires
 generics-bump-t-requires t c =
     (c.mark-t.ensures.under 0).ready c.if-t-ne0.false
 
-pub generics-shape_of-table-then-t-ne0-2 : goal.generics-shape_of-table-then-t-ne0-2
-generics-shape_of-table-then-t-ne0-2 t c =
-    (c.bump-t.ensures.under 0).len ∙ (c.mark-t.ensures.under 0).len
-
 pub generics-returns-then-t-ne0-2 : goal.generics-returns-then-t-ne0-2
 unfolding generics
 generics-returns-then-t-ne0-2 t c =
@@ -104,10 +81,6 @@ generics-returns-then-t-ne0-2 t c =
 pub generics-generic_paths-t-requires : goal.generics-generic_paths-t-requires
 generics-generic_paths-t-requires t c =
     (omega (arith, c.decreases, (c.mark-t.ensures.under 0).left, (c.bump-t.ensures.under 0).left), (c.bump-t.ensures.under 0).ready c.if-t-ne0-2.false)
-
-pub generics-shape_of-table-then-t-ne0-3 : goal.generics-shape_of-table-then-t-ne0-3
-generics-shape_of-table-then-t-ne0-3 t c =
-    (c.generic_paths-t.ensures.under 0).len ∙ ((c.bump-t.ensures.under 0).len ∙ (c.mark-t.ensures.under 0).len)
 
 pub generics-returns-then-t-ne0-3 : goal.generics-returns-then-t-ne0-3
 unfolding generics
@@ -118,10 +91,6 @@ pub generics-bump_if-t-requires : goal.generics-bump_if-t-requires
 generics-bump_if-t-requires t c =
     (c.generic_paths-t.ensures.under 0).ready c.if-t-ne0-3.false
 
-pub generics-shape_of-table-then-t-ne0-4 : goal.generics-shape_of-table-then-t-ne0-4
-generics-shape_of-table-then-t-ne0-4 t c =
-    (c.bump_if-t.ensures.under 0).len ∙ ((c.generic_paths-t.ensures.under 0).len ∙ ((c.bump-t.ensures.under 0).len ∙ (c.mark-t.ensures.under 0).len))
-
 pub generics-returns-then-t-ne0-4 : goal.generics-returns-then-t-ne0-4
 unfolding generics
 generics-returns-then-t-ne0-4 t c =
@@ -129,11 +98,7 @@ generics-returns-then-t-ne0-4 t c =
 
 pub generics-close_at-requires : goal.generics-close_at-requires
 generics-close_at-requires t c =
-    (step_marked (c.bump_if-t.ensures.under _) c.if-t-ne0-4.false (step_marked (c.generic_paths-t.ensures.under _) c.if-t-ne0-3.false (step_marked (c.bump-t.ensures.under _) c.if-t-ne0-2.false (marked_now))), (c.bump_if-t.ensures.under 0).ready c.if-t-ne0-4.false)
-
-pub generics-shape_of-table : goal.generics-shape_of-table
-generics-shape_of-table t c =
-    c.close_at.ensures.len ∙ ((c.bump_if-t.ensures.under 0).len ∙ ((c.generic_paths-t.ensures.under 0).len ∙ ((c.bump-t.ensures.under 0).len ∙ (c.mark-t.ensures.under 0).len)))
+    (step_marked (c.bump_if-t.ensures.under _) c.if-t-ne0-4.false (step_marked (c.generic_paths-t.ensures.under _) c.if-t-ne0-3.false (step_marked (c.bump-t.ensures.under _) c.if-t-ne0-2.false marked_now)), (c.bump_if-t.ensures.under 0).ready c.if-t-ne0-4.false)
 
 pub generics-returns : goal.generics-returns
 unfolding generics
@@ -153,10 +118,6 @@ pub generics_all-generics-t-requires : goal.generics_all-generics-t-requires
 generics_all-generics-t-requires t c =
     (omega (arith, c.decreases, (c.loop-table.invariant.under 0).left), c.loop-table.invariant.ready)
 
-pub generics_all-shape_of-table-then-t-ne0 : goal.generics_all-shape_of-table-then-t-ne0
-generics_all-shape_of-table-then-t-ne0 t c =
-    (c.generics-t.ensures.under 0).len ∙ (c.loop-table.invariant.under 0).len
-
 pub generics_all-returns-then-t-ne0 : goal.generics_all-returns-then-t-ne0
 unfolding generics_all while_turn
 generics_all-returns-then-t-ne0 t c =
@@ -170,10 +131,6 @@ pub generics_all-loop-table-preserved : goal.generics_all-loop-table-preserved
 unfolding generics_all while_turn
 generics_all-loop-table-preserved t c =
     record { ready = (c.generics-t.ensures.under 0).ready c.if-t-ne0.false; under = λ m. inv_again (c.loop-table.invariant.under m) (ask c.peek.ensures (if_yes (eq-eqb _ _ c.loop-table-test.true) (both (c.generics-t.ensures.under _) c.if-t-ne0.false (nothing ((c.generics-t.ensures.under 0).ready c.if-t-ne0.false))))) c.if-t-ne0.false (goes_some (c.generics-t.ensures.under 0) c.if-t-ne0.false c.peek.ensures (λ z. omega (arith, c.loop-table-test.true)) generics_further) }
-
-pub generics_all-shape_of-table : goal.generics_all-shape_of-table
-generics_all-shape_of-table t c =
-    (c.loop-table.invariant.under 0).len
 
 pub generics_all-returns : goal.generics_all-returns
 unfolding generics_all while_turn
@@ -193,10 +150,6 @@ pub path-path_text-t-requires : goal.path-path_text-t-requires
 path-path_text-t-requires t c =
     (omega (arith, c.decreases, c.if-left-eq0.false), deep c.requires)
 
-pub path-shape_of-table : goal.path-shape_of-table
-path-shape_of-table t c =
-    (c.path_text-t.ensures.under 0).len
-
 pub path-returns : goal.path-returns
 unfolding path grammar
 path-returns t c =
@@ -210,10 +163,6 @@ pub path_segment-bump-t-requires : goal.path_segment-bump-t-requires
 path_segment-bump-t-requires t c =
     c.requires
 
-pub path_segment-shape_of-table-then-t-ne0 : goal.path_segment-shape_of-table-then-t-ne0
-path_segment-shape_of-table-then-t-ne0 t c =
-    (c.bump-t.ensures.under 0).len
-
 pub path_segment-returns-then-t-ne0 : goal.path_segment-returns-then-t-ne0
 unfolding path_segment
 path_segment-returns-then-t-ne0 t c =
@@ -223,18 +172,10 @@ pub path_segment-generics_all-requires : goal.path_segment-generics_all-requires
 path_segment-generics_all-requires t c =
     (omega (arith, c.decreases, (c.bump-t.ensures.under 0).left), (c.bump-t.ensures.under 0).ready c.if-t-ne0.false)
 
-pub path_segment-shape_of-table-then-k-eq-COLON_COLON : goal.path_segment-shape_of-table-then-k-eq-COLON_COLON
-path_segment-shape_of-table-then-k-eq-COLON_COLON t c =
-    (c.generics_all.ensures.under 0).len ∙ (c.bump-t.ensures.under 0).len
-
 pub path_segment-returns-then-k-eq-COLON_COLON : goal.path_segment-returns-then-k-eq-COLON_COLON
 unfolding path_segment
 path_segment-returns-then-k-eq-COLON_COLON t c =
     record { under = λ m. ask c.peek-k.ensures (both (c.bump-t.ensures.under _) c.if-t-ne0.false (if_yes (eq-eqb _ _ c.if-k-eq-COLON_COLON.true) (c.generics_all.ensures.under _))) }
-
-pub path_segment-shape_of-table : goal.path_segment-shape_of-table
-path_segment-shape_of-table t c =
-    (c.bump-t.ensures.under 0).len
 
 pub path_segment-returns : goal.path_segment-returns
 unfolding path_segment
@@ -254,10 +195,6 @@ pub path_segments-path_segment-t-requires : goal.path_segments-path_segment-t-re
 path_segments-path_segment-t-requires t c =
     (omega (arith, c.decreases, (c.loop-table.invariant.under 0).left), c.loop-table.invariant.ready)
 
-pub path_segments-shape_of-table-then-t-ne0 : goal.path_segments-shape_of-table-then-t-ne0
-path_segments-shape_of-table-then-t-ne0 t c =
-    (c.path_segment-t.ensures.under 0).len ∙ (c.loop-table.invariant.under 0).len
-
 pub path_segments-returns-then-t-ne0 : goal.path_segments-returns-then-t-ne0
 unfolding path_segments while_turn
 path_segments-returns-then-t-ne0 t c =
@@ -272,10 +209,6 @@ unfolding path_segments while_turn
 path_segments-loop-table-preserved t c =
     record { ready = (c.path_segment-t.ensures.under 0).ready c.if-t-ne0.false; under = λ m. inv_again (c.loop-table.invariant.under m) (ask c.peek.ensures (if_yes (sym c.is_path_component.ensures ∙ c.loop-table-test.true) (both (c.path_segment-t.ensures.under _) c.if-t-ne0.false (nothing ((c.path_segment-t.ensures.under 0).ready c.if-t-ne0.false))))) c.if-t-ne0.false (goes_some (c.path_segment-t.ensures.under 0) c.if-t-ne0.false c.peek.ensures (path_component_some _ (sym c.is_path_component.ensures ∙ c.loop-table-test.true)) path_segment_further) }
 
-pub path_segments-shape_of-table : goal.path_segments-shape_of-table
-path_segments-shape_of-table t c =
-    (c.loop-table.invariant.under 0).len
-
 pub path_segments-returns : goal.path_segments-returns
 unfolding path_segments while_turn
 path_segments-returns t c =
@@ -284,10 +217,6 @@ path_segments-returns t c =
 pub path_text-mark-t-requires : goal.path_text-mark-t-requires
 path_text-mark-t-requires t c =
     c.requires
-
-pub path_text-shape_of-table-then-t-ne0 : goal.path_text-shape_of-table-then-t-ne0
-path_text-shape_of-table-then-t-ne0 t c =
-    (c.mark-t.ensures.under 0).len
 
 pub path_text-returns-then-t-ne0 : goal.path_text-returns-then-t-ne0
 unfolding path_text
@@ -298,10 +227,6 @@ pub path_text-path_segments-t-requires : goal.path_text-path_segments-t-requires
 path_text-path_segments-t-requires t c =
     (omega (arith, c.decreases, (c.mark-t.ensures.under 0).left), (c.mark-t.ensures.under 0).ready c.if-t-ne0.false)
 
-pub path_text-shape_of-table-then-t-ne0-2 : goal.path_text-shape_of-table-then-t-ne0-2
-path_text-shape_of-table-then-t-ne0-2 t c =
-    (c.path_segments-t.ensures.under 0).len ∙ (c.mark-t.ensures.under 0).len
-
 pub path_text-returns-then-t-ne0-2 : goal.path_text-returns-then-t-ne0-2
 unfolding path_text
 path_text-returns-then-t-ne0-2 t c =
@@ -309,11 +234,7 @@ path_text-returns-then-t-ne0-2 t c =
 
 pub path_text-close_at-requires : goal.path_text-close_at-requires
 path_text-close_at-requires t c =
-    (step_marked (c.path_segments-t.ensures.under _) c.if-t-ne0-2.false (marked_now), (c.path_segments-t.ensures.under 0).ready c.if-t-ne0-2.false)
-
-pub path_text-shape_of-table : goal.path_text-shape_of-table
-path_text-shape_of-table t c =
-    c.close_at.ensures.len ∙ ((c.path_segments-t.ensures.under 0).len ∙ (c.mark-t.ensures.under 0).len)
+    (step_marked (c.path_segments-t.ensures.under _) c.if-t-ne0-2.false marked_now, (c.path_segments-t.ensures.under 0).ready c.if-t-ne0-2.false)
 
 pub path_text-returns : goal.path_text-returns
 unfolding path_text

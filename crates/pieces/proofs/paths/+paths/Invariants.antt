@@ -1,3 +1,4 @@
+-- Written by tools/walk.py from the code and its program; docs/CONTRIBUTING.md says how.
 -- Assumes nothing.
 use Prim.Native.Nat.{◌+◌, ◌*◌}
 use Rattle.definition.specs.Grammar.{generic_paths, generics_all, path_segments}
@@ -30,7 +31,7 @@ decreases-path_text l = 8 * l.tape.left + 7
 
 abbrev pub invariant-generic_paths-loop-table : goal.invariant-generic_paths-loop-table
 invariant-generic_paths-loop-table l =
-    Loop (generic_paths) (generic_paths) l.initial.t l.t l.kinds l.lens l.initial.table l.table
+    Loop generic_paths generic_paths l.initial.t l.t l.kinds l.lens l.initial.table l.table
 
 abbrev pub decreases-generic_paths-loop-table : goal.decreases-generic_paths-loop-table
 decreases-generic_paths-loop-table l =
@@ -38,7 +39,7 @@ decreases-generic_paths-loop-table l =
 
 abbrev pub invariant-generics_all-loop-table : goal.invariant-generics_all-loop-table
 invariant-generics_all-loop-table l =
-    Loop (generics_all) (generics_all) l.initial.t l.t l.kinds l.lens l.initial.table l.table
+    Loop generics_all generics_all l.initial.t l.t l.kinds l.lens l.initial.table l.table
 
 abbrev pub decreases-generics_all-loop-table : goal.decreases-generics_all-loop-table
 decreases-generics_all-loop-table l =
@@ -46,7 +47,7 @@ decreases-generics_all-loop-table l =
 
 abbrev pub invariant-path_segments-loop-table : goal.invariant-path_segments-loop-table
 invariant-path_segments-loop-table l =
-    Loop (path_segments) (path_segments) l.initial.t l.t l.kinds l.lens l.initial.table l.table
+    Loop path_segments path_segments l.initial.t l.t l.kinds l.lens l.initial.table l.table
 
 abbrev pub decreases-path_segments-loop-table : goal.decreases-path_segments-loop-table
 decreases-path_segments-loop-table l =

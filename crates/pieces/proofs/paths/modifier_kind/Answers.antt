@@ -1,6 +1,5 @@
 -- Written by tools/walk.py from the code and its program; docs/CONTRIBUTING.md says how.
 -- Assumes nothing.
-use mathlib.Core.Path.{◌∙◌}
 use borrow.Author.Tests.{eq-eqb, ne_eqb}
 use Rattle.definition.specs.Grammar.{modifier_kind}
 use Rattle.tape.specs.Steps.{both, cut, if_yes, if_no, look, answered}
@@ -14,18 +13,10 @@ pub bump-t-requires : goal.bump-t-requires
 bump-t-requires c =
     c.requires
 
-pub shape_of-table-then-t-ne0 : goal.shape_of-table-then-t-ne0
-shape_of-table-then-t-ne0 c =
-    (c.bump-t.ensures.under 0).len
-
 pub returns-then-t-ne0 : goal.returns-then-t-ne0
 unfolding modifier_kind
 returns-then-t-ne0 c =
     record { under = λ m. look c.peek-k.ensures (if_yes (eq-eqb _ _ c.if-k-eq-SUPER.true) (cut (c.bump-t.ensures.under _) c.if-t-ne0.true)) }
-
-pub shape_of-table-then-k-eq-SUPER : goal.shape_of-table-then-k-eq-SUPER
-shape_of-table-then-k-eq-SUPER c =
-    (c.bump-t.ensures.under 0).len
 
 pub returns-then-k-eq-SUPER : goal.returns-then-k-eq-SUPER
 unfolding modifier_kind
@@ -36,18 +27,10 @@ pub bump-t-requires-then-k-eq-SELF_VALUE : goal.bump-t-requires-then-k-eq-SELF_V
 bump-t-requires-then-k-eq-SELF_VALUE c =
     c.requires
 
-pub shape_of-table-then-t-ne0-2 : goal.shape_of-table-then-t-ne0-2
-shape_of-table-then-t-ne0-2 c =
-    (c.bump-t-then-k-eq-SELF_VALUE.ensures.under 0).len
-
 pub returns-then-t-ne0-2 : goal.returns-then-t-ne0-2
 unfolding modifier_kind
 returns-then-t-ne0-2 c =
     record { under = λ m. look c.peek-k.ensures (if_no (ne_eqb _ _ c.if-k-eq-SUPER.false) (if_yes (eq-eqb _ _ c.if-k-eq-SELF_VALUE.true) (cut (c.bump-t-then-k-eq-SELF_VALUE.ensures.under _) c.if-t-ne0-2.true))) }
-
-pub shape_of-table-then-k-eq-SELF_VALUE : goal.shape_of-table-then-k-eq-SELF_VALUE
-shape_of-table-then-k-eq-SELF_VALUE c =
-    (c.bump-t-then-k-eq-SELF_VALUE.ensures.under 0).len
 
 pub returns-then-k-eq-SELF_VALUE : goal.returns-then-k-eq-SELF_VALUE
 unfolding modifier_kind
@@ -58,18 +41,10 @@ pub bump-t-requires-then-k-eq-CRATE : goal.bump-t-requires-then-k-eq-CRATE
 bump-t-requires-then-k-eq-CRATE c =
     c.requires
 
-pub shape_of-table-then-t-ne0-3 : goal.shape_of-table-then-t-ne0-3
-shape_of-table-then-t-ne0-3 c =
-    (c.bump-t-then-k-eq-CRATE.ensures.under 0).len
-
 pub returns-then-t-ne0-3 : goal.returns-then-t-ne0-3
 unfolding modifier_kind
 returns-then-t-ne0-3 c =
     record { under = λ m. look c.peek-k.ensures (if_no (ne_eqb _ _ c.if-k-eq-SUPER.false) (if_no (ne_eqb _ _ c.if-k-eq-SELF_VALUE.false) (if_yes (eq-eqb _ _ c.if-k-eq-CRATE.true) (cut (c.bump-t-then-k-eq-CRATE.ensures.under _) c.if-t-ne0-3.true)))) }
-
-pub shape_of-table-then-k-eq-CRATE : goal.shape_of-table-then-k-eq-CRATE
-shape_of-table-then-k-eq-CRATE c =
-    (c.bump-t-then-k-eq-CRATE.ensures.under 0).len
 
 pub returns-then-k-eq-CRATE : goal.returns-then-k-eq-CRATE
 unfolding modifier_kind
@@ -80,10 +55,6 @@ pub bump-t-requires-then-k-eq-IN : goal.bump-t-requires-then-k-eq-IN
 bump-t-requires-then-k-eq-IN c =
     c.requires
 
-pub shape_of-table-then-t-ne0-4 : goal.shape_of-table-then-t-ne0-4
-shape_of-table-then-t-ne0-4 c =
-    (c.bump-t-then-k-eq-IN.ensures.under 0).len
-
 pub returns-then-t-ne0-4 : goal.returns-then-t-ne0-4
 unfolding modifier_kind
 returns-then-t-ne0-4 c =
@@ -93,18 +64,10 @@ pub path-t-requires : goal.path-t-requires
 path-t-requires c =
     (c.bump-t-then-k-eq-IN.ensures.under 0).ready c.if-t-ne0-4.false
 
-pub shape_of-table-then-t-ne0-5 : goal.shape_of-table-then-t-ne0-5
-shape_of-table-then-t-ne0-5 c =
-    (c.path-t.ensures.under 0).len ∙ (c.bump-t-then-k-eq-IN.ensures.under 0).len
-
 pub returns-then-t-ne0-5 : goal.returns-then-t-ne0-5
 unfolding modifier_kind
 returns-then-t-ne0-5 c =
     record { under = λ m. look c.peek-k.ensures (if_no (ne_eqb _ _ c.if-k-eq-SUPER.false) (if_no (ne_eqb _ _ c.if-k-eq-SELF_VALUE.false) (if_no (ne_eqb _ _ c.if-k-eq-CRATE.false) (if_yes (eq-eqb _ _ c.if-k-eq-IN.true) (both (c.bump-t-then-k-eq-IN.ensures.under _) c.if-t-ne0-4.false (cut (c.path-t.ensures.under _) c.if-t-ne0-5.true)))))) }
-
-pub shape_of-table-then-k-eq-IN : goal.shape_of-table-then-k-eq-IN
-shape_of-table-then-k-eq-IN c =
-    (c.path-t.ensures.under 0).len ∙ (c.bump-t-then-k-eq-IN.ensures.under 0).len
 
 pub returns-then-k-eq-IN : goal.returns-then-k-eq-IN
 unfolding modifier_kind

@@ -1,6 +1,5 @@
 -- Written by tools/walk.py from the code and its program; docs/CONTRIBUTING.md says how.
 -- Assumes nothing.
-use mathlib.Core.Path.{◌∙◌}
 use borrow.Author.Tests.{eq-eqb, ne_eqb}
 use Rattle.definition.specs.Grammar.{modifier_pub}
 use Rattle.tape.specs.Steps.{both, cut, if_yes, if_no, ask, nothing}
@@ -9,10 +8,6 @@ use Rattle.pieces.proofs.paths.modifier_pub.Goals as goal
 pub bump-t-requires : goal.bump-t-requires
 bump-t-requires c =
     c.requires
-
-pub shape_of-table-then-t-ne0 : goal.shape_of-table-then-t-ne0
-shape_of-table-then-t-ne0 c =
-    (c.bump-t.ensures.under 0).len
 
 pub returns-then-t-ne0 : goal.returns-then-t-ne0
 unfolding modifier_pub
@@ -27,18 +22,10 @@ pub modifier_paren-requires : goal.modifier_paren-requires
 modifier_paren-requires c =
     (c.bump-t.ensures.under 0).ready c.if-t-ne0.false
 
-pub shape_of-table-then-peek-eq-PAREN : goal.shape_of-table-then-peek-eq-PAREN
-shape_of-table-then-peek-eq-PAREN c =
-    (c.modifier_paren.ensures.under 0).len ∙ (c.bump-t.ensures.under 0).len
-
 pub returns-then-peek-eq-PAREN : goal.returns-then-peek-eq-PAREN
 unfolding modifier_pub
 returns-then-peek-eq-PAREN c =
     record { under = λ m. both (c.bump-t.ensures.under _) c.if-t-ne0.false (ask c.peek.ensures (if_yes (eq-eqb _ _ c.if-peek-eq-PAREN.true) (c.modifier_paren.ensures.under _))) }
-
-pub shape_of-table : goal.shape_of-table
-shape_of-table c =
-    (c.bump-t.ensures.under 0).len
 
 pub returns : goal.returns
 unfolding modifier_pub

@@ -1,6 +1,5 @@
 -- Written by tools/walk.py from the code and its program; docs/CONTRIBUTING.md says how.
 -- Assumes nothing.
-use mathlib.Core.Path.{◌∙◌}
 use mathlib.Core.Bool.{false}
 use native.Mathlib.Omega.{arith}
 use borrow.Author.Tests.{eq-eqb, ne_eqb}
@@ -13,10 +12,6 @@ use Rattle.pieces.proofs.paths.modifiers.Goals as goal
 pub mark-t-requires : goal.mark-t-requires
 mark-t-requires c =
     c.requires
-
-pub shape_of-table-then-t-ne0 : goal.shape_of-table-then-t-ne0
-shape_of-table-then-t-ne0 c =
-    (c.mark-t.ensures.under 0).len
 
 pub returns-then-t-ne0 : goal.returns-then-t-ne0
 unfolding modifiers modifiers_turn
@@ -36,10 +31,6 @@ pub modifier_pub-t-requires : goal.modifier_pub-t-requires
 modifier_pub-t-requires c =
     c.loop-table.invariant.ready
 
-pub shape_of-table-then-t-ne0-2 : goal.shape_of-table-then-t-ne0-2
-shape_of-table-then-t-ne0-2 c =
-    (c.modifier_pub-t.ensures.under 0).len ∙ ((c.loop-table.invariant.under 0).len ∙ (c.mark-t.ensures.under 0).len)
-
 pub returns-then-t-ne0-2 : goal.returns-then-t-ne0-2
 unfolding modifiers modifiers_turn
 returns-then-t-ne0-2 c =
@@ -57,10 +48,6 @@ loop-table-preserved-then-k-eq-PUB c =
 pub bump-t-requires : goal.bump-t-requires
 bump-t-requires c =
     c.loop-table.invariant.ready
-
-pub shape_of-table-then-t-ne0-3 : goal.shape_of-table-then-t-ne0-3
-shape_of-table-then-t-ne0-3 c =
-    (c.bump-t.ensures.under 0).len ∙ ((c.loop-table.invariant.under 0).len ∙ (c.mark-t.ensures.under 0).len)
 
 pub returns-then-t-ne0-3 : goal.returns-then-t-ne0-3
 unfolding modifiers modifiers_turn
@@ -80,10 +67,6 @@ pub bump-t-requires-then-k-eq-ASYNC : goal.bump-t-requires-then-k-eq-ASYNC
 bump-t-requires-then-k-eq-ASYNC c =
     c.loop-table.invariant.ready
 
-pub shape_of-table-then-t-ne0-4 : goal.shape_of-table-then-t-ne0-4
-shape_of-table-then-t-ne0-4 c =
-    (c.bump-t-then-k-eq-ASYNC.ensures.under 0).len ∙ ((c.loop-table.invariant.under 0).len ∙ (c.mark-t.ensures.under 0).len)
-
 pub returns-then-t-ne0-4 : goal.returns-then-t-ne0-4
 unfolding modifiers modifiers_turn
 returns-then-t-ne0-4 c =
@@ -102,10 +85,6 @@ pub bump-t-requires-then-k-eq-MOVE : goal.bump-t-requires-then-k-eq-MOVE
 bump-t-requires-then-k-eq-MOVE c =
     c.loop-table.invariant.ready
 
-pub shape_of-table-then-t-ne0-5 : goal.shape_of-table-then-t-ne0-5
-shape_of-table-then-t-ne0-5 c =
-    (c.bump-t-then-k-eq-MOVE.ensures.under 0).len ∙ ((c.loop-table.invariant.under 0).len ∙ (c.mark-t.ensures.under 0).len)
-
 pub returns-then-t-ne0-5 : goal.returns-then-t-ne0-5
 unfolding modifiers modifiers_turn
 returns-then-t-ne0-5 c =
@@ -122,29 +101,17 @@ loop-table-preserved c =
 
 pub close_at-t-requires : goal.close_at-t-requires
 close_at-t-requires c =
-    ((c.loop-table.invariant.under _).marked (marked_now), c.loop-table.invariant.ready)
-
-pub shape_of-table-then-t-ne0-6 : goal.shape_of-table-then-t-ne0-6
-shape_of-table-then-t-ne0-6 c =
-    c.close_at-t.ensures.len ∙ ((c.loop-table.invariant.under 0).len ∙ (c.mark-t.ensures.under 0).len)
+    ((c.loop-table.invariant.under _).marked marked_now, c.loop-table.invariant.ready)
 
 pub returns-then-t-ne0-6 : goal.returns-then-t-ne0-6
 unfolding modifiers modifiers_turn
 returns-then-t-ne0-6 c =
     scoped c.mark-t.ensures c.if-t-ne0.false (both (inv_end (c.loop-table.invariant.under _) (last (look c.peek-k.ensures (if_no (ne_eqb _ _ c.if-k-eq-PUB.false) (if_no (ne_eqb _ _ c.if-k-eq-CONST.false) (if_no (ne_eqb _ _ c.if-k-eq-ASYNC.false) (if_no (ne_eqb _ _ c.if-k-eq-MOVE.false) (nothing c.loop-table.invariant.ready)))))) c.loop-table.invariant.ready.going)) c.loop-table.invariant.ready.going (cut (if_yes c.if-has_mods.true (refusal c.close_at-t.ensures c.if-t-ne0-6.true)) c.if-t-ne0-6.true))
 
-pub shape_of-table-then-has_mods : goal.shape_of-table-then-has_mods
-shape_of-table-then-has_mods c =
-    c.close_at-t.ensures.len ∙ ((c.loop-table.invariant.under 0).len ∙ (c.mark-t.ensures.under 0).len)
-
 pub returns-then-has_mods : goal.returns-then-has_mods
 unfolding modifiers modifiers_turn
 returns-then-has_mods c =
     scoped c.mark-t.ensures c.if-t-ne0.false (both (inv_end (c.loop-table.invariant.under _) (last (look c.peek-k.ensures (if_no (ne_eqb _ _ c.if-k-eq-PUB.false) (if_no (ne_eqb _ _ c.if-k-eq-CONST.false) (if_no (ne_eqb _ _ c.if-k-eq-ASYNC.false) (if_no (ne_eqb _ _ c.if-k-eq-MOVE.false) (nothing c.loop-table.invariant.ready)))))) c.loop-table.invariant.ready.going)) c.loop-table.invariant.ready.going (both (if_yes c.if-has_mods.true c.close_at-t.ensures) c.if-t-ne0-6.false (says (λ x. x) c.say.ensures (c.close_at-t.ensures.ready c.if-t-ne0-6.false))))
-
-pub shape_of-table : goal.shape_of-table
-shape_of-table c =
-    (c.loop-table.invariant.under 0).len ∙ (c.mark-t.ensures.under 0).len
 
 pub returns : goal.returns
 unfolding modifiers modifiers_turn

@@ -1,3 +1,4 @@
+-- Written by tools/walk.py from the code and its program; docs/CONTRIBUTING.md says how.
 -- Assumes nothing.
 use mathlib.Core.Path.{sym, ◌∙◌}
 use native.Mathlib.Omega.{arith}
@@ -22,10 +23,6 @@ pub pat-pat_text-t-requires : goal.pat-pat_text-t-requires
 pat-pat_text-t-requires t c =
     (omega (arith, c.decreases, c.if-left-eq0.false), deep c.requires)
 
-pub pat-shape_of-table : goal.pat-shape_of-table
-pat-shape_of-table t c =
-    (c.pat_text-t.ensures.under 0).len
-
 pub pat-returns : goal.pat-returns
 unfolding pat grammar
 pat-returns t c =
@@ -34,10 +31,6 @@ pat-returns t c =
 pub pat_anonymous-mark-t-requires : goal.pat_anonymous-mark-t-requires
 pat_anonymous-mark-t-requires t c =
     c.requires
-
-pub pat_anonymous-shape_of-table-then-t-ne0 : goal.pat_anonymous-shape_of-table-then-t-ne0
-pat_anonymous-shape_of-table-then-t-ne0 t c =
-    (c.mark-t.ensures.under 0).len
 
 pub pat_anonymous-returns-then-t-ne0 : goal.pat_anonymous-returns-then-t-ne0
 unfolding pat_anonymous
@@ -48,10 +41,6 @@ pub pat_anonymous-bump-t-requires : goal.pat_anonymous-bump-t-requires
 pat_anonymous-bump-t-requires t c =
     (c.mark-t.ensures.under 0).ready c.if-t-ne0.false
 
-pub pat_anonymous-shape_of-table-then-t-ne0-2 : goal.pat_anonymous-shape_of-table-then-t-ne0-2
-pat_anonymous-shape_of-table-then-t-ne0-2 t c =
-    (c.bump-t.ensures.under 0).len ∙ (c.mark-t.ensures.under 0).len
-
 pub pat_anonymous-returns-then-t-ne0-2 : goal.pat_anonymous-returns-then-t-ne0-2
 unfolding pat_anonymous
 pat_anonymous-returns-then-t-ne0-2 t c =
@@ -59,11 +48,7 @@ pat_anonymous-returns-then-t-ne0-2 t c =
 
 pub pat_anonymous-close_at-t-requires : goal.pat_anonymous-close_at-t-requires
 pat_anonymous-close_at-t-requires t c =
-    (step_marked (c.bump-t.ensures.under _) c.if-t-ne0-2.false (marked_now), (c.bump-t.ensures.under 0).ready c.if-t-ne0-2.false)
-
-pub pat_anonymous-shape_of-table-then-t-ne0-3 : goal.pat_anonymous-shape_of-table-then-t-ne0-3
-pat_anonymous-shape_of-table-then-t-ne0-3 t c =
-    c.close_at-t.ensures.len ∙ ((c.bump-t.ensures.under 0).len ∙ (c.mark-t.ensures.under 0).len)
+    (step_marked (c.bump-t.ensures.under _) c.if-t-ne0-2.false marked_now, (c.bump-t.ensures.under 0).ready c.if-t-ne0-2.false)
 
 pub pat_anonymous-returns-then-t-ne0-3 : goal.pat_anonymous-returns-then-t-ne0-3
 unfolding pat_anonymous
@@ -74,10 +59,6 @@ pub pat_anonymous-pat_object-t-requires : goal.pat_anonymous-pat_object-t-requir
 pat_anonymous-pat_object-t-requires t c =
     (omega (arith, c.decreases, (c.mark-t.ensures.under 0).left, (c.bump-t.ensures.under 0).left, c.close_at-t.ensures.left), c.close_at-t.ensures.ready c.if-t-ne0-3.false)
 
-pub pat_anonymous-shape_of-table-then-t-ne0-4 : goal.pat_anonymous-shape_of-table-then-t-ne0-4
-pat_anonymous-shape_of-table-then-t-ne0-4 t c =
-    (c.pat_object-t.ensures.under 0).len ∙ (c.close_at-t.ensures.len ∙ ((c.bump-t.ensures.under 0).len ∙ (c.mark-t.ensures.under 0).len))
-
 pub pat_anonymous-returns-then-t-ne0-4 : goal.pat_anonymous-returns-then-t-ne0-4
 unfolding pat_anonymous
 pat_anonymous-returns-then-t-ne0-4 t c =
@@ -85,11 +66,7 @@ pat_anonymous-returns-then-t-ne0-4 t c =
 
 pub pat_anonymous-close_at-requires : goal.pat_anonymous-close_at-requires
 pat_anonymous-close_at-requires t c =
-    (step_marked (c.pat_object-t.ensures.under _) c.if-t-ne0-4.false (step_marked c.close_at-t.ensures c.if-t-ne0-3.false (step_marked (c.bump-t.ensures.under _) c.if-t-ne0-2.false (marked_now))), (c.pat_object-t.ensures.under 0).ready c.if-t-ne0-4.false)
-
-pub pat_anonymous-shape_of-table : goal.pat_anonymous-shape_of-table
-pat_anonymous-shape_of-table t c =
-    c.close_at.ensures.len ∙ ((c.pat_object-t.ensures.under 0).len ∙ (c.close_at-t.ensures.len ∙ ((c.bump-t.ensures.under 0).len ∙ (c.mark-t.ensures.under 0).len)))
+    (step_marked (c.pat_object-t.ensures.under _) c.if-t-ne0-4.false (step_marked c.close_at-t.ensures c.if-t-ne0-3.false (step_marked (c.bump-t.ensures.under _) c.if-t-ne0-2.false marked_now)), (c.pat_object-t.ensures.under 0).ready c.if-t-ne0-4.false)
 
 pub pat_anonymous-returns : goal.pat_anonymous-returns
 unfolding pat_anonymous
@@ -100,10 +77,6 @@ pub pat_group-mark-t-requires : goal.pat_group-mark-t-requires
 pat_group-mark-t-requires t c =
     c.requires
 
-pub pat_group-shape_of-table-then-t-ne0 : goal.pat_group-shape_of-table-then-t-ne0
-pat_group-shape_of-table-then-t-ne0 t c =
-    (c.mark-t.ensures.under 0).len
-
 pub pat_group-returns-then-t-ne0 : goal.pat_group-returns-then-t-ne0
 unfolding pat_group
 pat_group-returns-then-t-ne0 t c =
@@ -113,10 +86,6 @@ pub pat_group-pat_parens-t-requires : goal.pat_group-pat_parens-t-requires
 pat_group-pat_parens-t-requires t c =
     (omega (arith, c.decreases, (c.mark-t.ensures.under 0).left), (c.mark-t.ensures.under 0).ready c.if-t-ne0.false)
 
-pub pat_group-shape_of-table-then-t-ne0-2 : goal.pat_group-shape_of-table-then-t-ne0-2
-pat_group-shape_of-table-then-t-ne0-2 t c =
-    (c.pat_parens-t.ensures.under 0).len ∙ (c.mark-t.ensures.under 0).len
-
 pub pat_group-returns-then-t-ne0-2 : goal.pat_group-returns-then-t-ne0-2
 unfolding pat_group
 pat_group-returns-then-t-ne0-2 t c =
@@ -124,11 +93,7 @@ pat_group-returns-then-t-ne0-2 t c =
 
 pub pat_group-close_at-requires : goal.pat_group-close_at-requires
 pat_group-close_at-requires t c =
-    (step_marked (c.pat_parens-t.ensures.under _) c.if-t-ne0-2.false (marked_now), (c.pat_parens-t.ensures.under 0).ready c.if-t-ne0-2.false)
-
-pub pat_group-shape_of-table : goal.pat_group-shape_of-table
-pat_group-shape_of-table t c =
-    c.close_at.ensures.len ∙ ((c.pat_parens-t.ensures.under 0).len ∙ (c.mark-t.ensures.under 0).len)
+    (step_marked (c.pat_parens-t.ensures.under _) c.if-t-ne0-2.false marked_now, (c.pat_parens-t.ensures.under 0).ready c.if-t-ne0-2.false)
 
 pub pat_group-returns : goal.pat_group-returns
 unfolding pat_group
@@ -139,10 +104,6 @@ pub pat_item-pat_or_rest-t-requires : goal.pat_item-pat_or_rest-t-requires
 pat_item-pat_or_rest-t-requires t c =
     (omega (arith, c.decreases), c.requires)
 
-pub pat_item-shape_of-table-then-t-ne0 : goal.pat_item-shape_of-table-then-t-ne0
-pat_item-shape_of-table-then-t-ne0 t c =
-    (c.pat_or_rest-t.ensures.under 0).len
-
 pub pat_item-returns-then-t-ne0 : goal.pat_item-returns-then-t-ne0
 unfolding pat_item
 pat_item-returns-then-t-ne0 t c =
@@ -151,10 +112,6 @@ pat_item-returns-then-t-ne0 t c =
 pub pat_item-bump_while-requires : goal.pat_item-bump_while-requires
 pat_item-bump_while-requires t c =
     (omega arith, (c.pat_or_rest-t.ensures.under 0).ready c.if-t-ne0.false)
-
-pub pat_item-shape_of-table : goal.pat_item-shape_of-table
-pat_item-shape_of-table t c =
-    (c.bump_while.ensures.under 0).len ∙ (c.pat_or_rest-t.ensures.under 0).len
 
 pub pat_item-returns : goal.pat_item-returns
 unfolding pat_item
@@ -178,10 +135,6 @@ pub pat_items-pat_item-t-requires : goal.pat_items-pat_item-t-requires
 pat_items-pat_item-t-requires t c =
     (omega (arith, c.decreases, (c.loop-table.invariant.under 0).left), c.loop-table.invariant.ready)
 
-pub pat_items-shape_of-table-then-t-ne0 : goal.pat_items-shape_of-table-then-t-ne0
-pat_items-shape_of-table-then-t-ne0 t c =
-    (c.pat_item-t.ensures.under 0).len ∙ (c.loop-table.invariant.under 0).len
-
 pub pat_items-returns-then-t-ne0 : goal.pat_items-returns-then-t-ne0
 unfolding pat_items while_turn
 pat_items-returns-then-t-ne0 t c =
@@ -196,10 +149,6 @@ unfolding pat_items while_turn
 pat_items-loop-table-preserved t c =
     record { ready = (c.pat_item-t.ensures.under 0).ready c.if-t-ne0.false; under = λ m. inv_again (c.loop-table.invariant.under m) (ask_glued c.peek.ensures c.glued.ensures (if_yes (sym c.is_pat_or_rest.ensures ∙ c.loop-table-test.true) (both (c.pat_item-t.ensures.under _) c.if-t-ne0.false (nothing ((c.pat_item-t.ensures.under 0).ready c.if-t-ne0.false))))) c.if-t-ne0.false (goes_glued (c.pat_item-t.ensures.under 0) c.if-t-ne0.false c.peek.ensures c.glued.ensures is_pat_or_rest (sym c.is_pat_or_rest.ensures ∙ c.loop-table-test.true) pat_item_further) }
 
-pub pat_items-shape_of-table : goal.pat_items-shape_of-table
-pat_items-shape_of-table t c =
-    (c.loop-table.invariant.under 0).len
-
 pub pat_items-returns : goal.pat_items-returns
 unfolding pat_items while_turn
 pat_items-returns t c =
@@ -208,10 +157,6 @@ pat_items-returns t c =
 pub pat_kind-push-requires : goal.pat_kind-push-requires
 pat_kind-push-requires t c =
     c.requires
-
-pub pat_kind-shape_of-table-then-is_lit : goal.pat_kind-shape_of-table-then-is_lit
-pat_kind-shape_of-table-then-is_lit t c =
-    (c.push.ensures.under 0).len
 
 pub pat_kind-returns-then-is_lit : goal.pat_kind-returns-then-is_lit
 unfolding pat_kind
@@ -222,10 +167,6 @@ pub pat_kind-pat_negative-requires : goal.pat_kind-pat_negative-requires
 pat_kind-pat_negative-requires t c =
     c.requires
 
-pub pat_kind-shape_of-table-then-k-eq-DASH : goal.pat_kind-shape_of-table-then-k-eq-DASH
-pat_kind-shape_of-table-then-k-eq-DASH t c =
-    (c.pat_negative.ensures.under 0).len
-
 pub pat_kind-returns-then-k-eq-DASH : goal.pat_kind-returns-then-k-eq-DASH
 unfolding pat_kind
 pat_kind-returns-then-k-eq-DASH t c =
@@ -234,10 +175,6 @@ pat_kind-returns-then-k-eq-DASH t c =
 pub pat_kind-push-requires-then-k-eq-UNDERSCORE : goal.pat_kind-push-requires-then-k-eq-UNDERSCORE
 pat_kind-push-requires-then-k-eq-UNDERSCORE t c =
     c.requires
-
-pub pat_kind-shape_of-table-then-k-eq-UNDERSCORE : goal.pat_kind-shape_of-table-then-k-eq-UNDERSCORE
-pat_kind-shape_of-table-then-k-eq-UNDERSCORE t c =
-    (c.push-then-k-eq-UNDERSCORE.ensures.under 0).len
 
 pub pat_kind-returns-then-k-eq-UNDERSCORE : goal.pat_kind-returns-then-k-eq-UNDERSCORE
 unfolding pat_kind
@@ -248,10 +185,6 @@ pub pat_kind-pat_path-requires : goal.pat_kind-pat_path-requires
 pat_kind-pat_path-requires t c =
     (omega (arith, c.decreases), c.requires)
 
-pub pat_kind-shape_of-table-then-is_path_component : goal.pat_kind-shape_of-table-then-is_path_component
-pat_kind-shape_of-table-then-is_path_component t c =
-    (c.pat_path.ensures.under 0).len
-
 pub pat_kind-returns-then-is_path_component : goal.pat_kind-returns-then-is_path_component
 unfolding pat_kind
 pat_kind-returns-then-is_path_component t c =
@@ -260,10 +193,6 @@ pat_kind-returns-then-is_path_component t c =
 pub pat_kind-pat_group-requires : goal.pat_kind-pat_group-requires
 pat_kind-pat_group-requires t c =
     (omega (arith, c.decreases), c.requires)
-
-pub pat_kind-shape_of-table-then-k-eq-BRACKET : goal.pat_kind-shape_of-table-then-k-eq-BRACKET
-pat_kind-shape_of-table-then-k-eq-BRACKET t c =
-    (c.pat_group.ensures.under 0).len
 
 pub pat_kind-returns-then-k-eq-BRACKET : goal.pat_kind-returns-then-k-eq-BRACKET
 unfolding pat_kind
@@ -274,10 +203,6 @@ pub pat_kind-pat_group-requires-then-k-eq-PAREN : goal.pat_kind-pat_group-requir
 pat_kind-pat_group-requires-then-k-eq-PAREN t c =
     (omega (arith, c.decreases), c.requires)
 
-pub pat_kind-shape_of-table-then-k-eq-PAREN : goal.pat_kind-shape_of-table-then-k-eq-PAREN
-pat_kind-shape_of-table-then-k-eq-PAREN t c =
-    (c.pat_group-then-k-eq-PAREN.ensures.under 0).len
-
 pub pat_kind-returns-then-k-eq-PAREN : goal.pat_kind-returns-then-k-eq-PAREN
 unfolding pat_kind
 pat_kind-returns-then-k-eq-PAREN t c =
@@ -286,10 +211,6 @@ pat_kind-returns-then-k-eq-PAREN t c =
 pub pat_kind-pat_anonymous-requires : goal.pat_kind-pat_anonymous-requires
 pat_kind-pat_anonymous-requires t c =
     (omega (arith, c.decreases), c.requires)
-
-pub pat_kind-shape_of-table-then-glues : goal.pat_kind-shape_of-table-then-glues
-pat_kind-shape_of-table-then-glues t c =
-    (c.pat_anonymous.ensures.under 0).len
 
 pub pat_kind-returns-then-glues : goal.pat_kind-returns-then-glues
 unfolding pat_kind
@@ -300,10 +221,6 @@ pub pat_kind-empty-requires : goal.pat_kind-empty-requires
 pat_kind-empty-requires t c =
     c.requires
 
-pub pat_kind-shape_of-table : goal.pat_kind-shape_of-table
-pat_kind-shape_of-table t c =
-    (c.empty.ensures.under 0).len
-
 pub pat_kind-returns : goal.pat_kind-returns
 unfolding pat_kind
 pat_kind-returns t c =
@@ -312,10 +229,6 @@ pat_kind-returns t c =
 pub pat_object-bump-t-requires : goal.pat_object-bump-t-requires
 pat_object-bump-t-requires t c =
     c.requires
-
-pub pat_object-shape_of-table-then-t-ne0 : goal.pat_object-shape_of-table-then-t-ne0
-pat_object-shape_of-table-then-t-ne0 t c =
-    (c.bump-t.ensures.under 0).len
 
 pub pat_object-returns-then-t-ne0 : goal.pat_object-returns-then-t-ne0
 unfolding pat_object
@@ -326,10 +239,6 @@ pub pat_object-pat_object_items-t-requires : goal.pat_object-pat_object_items-t-
 pat_object-pat_object_items-t-requires t c =
     (omega (arith, c.decreases, (c.bump-t.ensures.under 0).left), (c.bump-t.ensures.under 0).ready c.if-t-ne0.false)
 
-pub pat_object-shape_of-table-then-t-ne0-2 : goal.pat_object-shape_of-table-then-t-ne0-2
-pat_object-shape_of-table-then-t-ne0-2 t c =
-    (c.pat_object_items-t.ensures.under 0).len ∙ (c.bump-t.ensures.under 0).len
-
 pub pat_object-returns-then-t-ne0-2 : goal.pat_object-returns-then-t-ne0-2
 unfolding pat_object
 pat_object-returns-then-t-ne0-2 t c =
@@ -338,10 +247,6 @@ pat_object-returns-then-t-ne0-2 t c =
 pub pat_object-bump_if-requires : goal.pat_object-bump_if-requires
 pat_object-bump_if-requires t c =
     (c.pat_object_items-t.ensures.under 0).ready c.if-t-ne0-2.false
-
-pub pat_object-shape_of-table : goal.pat_object-shape_of-table
-pat_object-shape_of-table t c =
-    (c.bump_if.ensures.under 0).len ∙ ((c.pat_object_items-t.ensures.under 0).len ∙ (c.bump-t.ensures.under 0).len)
 
 pub pat_object-returns : goal.pat_object-returns
 unfolding pat_object
@@ -361,10 +266,6 @@ pub pat_object_items-bump-t-requires : goal.pat_object_items-bump-t-requires
 pat_object_items-bump-t-requires t c =
     c.loop-table.invariant.ready
 
-pub pat_object_items-shape_of-table-then-t-ne0 : goal.pat_object_items-shape_of-table-then-t-ne0
-pat_object_items-shape_of-table-then-t-ne0 t c =
-    (c.bump-t.ensures.under 0).len ∙ (c.loop-table.invariant.under 0).len
-
 pub pat_object_items-returns-then-t-ne0 : goal.pat_object_items-returns-then-t-ne0
 unfolding pat_object_items pat_object_turn
 pat_object_items-returns-then-t-ne0 t c =
@@ -383,10 +284,6 @@ pub pat_object_items-pat_object_key-t-requires : goal.pat_object_items-pat_objec
 pat_object_items-pat_object_key-t-requires t c =
     (omega (arith, c.decreases, (c.loop-table.invariant.under 0).left), c.loop-table.invariant.ready)
 
-pub pat_object_items-shape_of-table-then-t-ne0-2 : goal.pat_object_items-shape_of-table-then-t-ne0-2
-pat_object_items-shape_of-table-then-t-ne0-2 t c =
-    (c.pat_object_key-t.ensures.under 0).len ∙ (c.loop-table.invariant.under 0).len
-
 pub pat_object_items-returns-then-t-ne0-2 : goal.pat_object_items-returns-then-t-ne0-2
 unfolding pat_object_items pat_object_turn
 pat_object_items-returns-then-t-ne0-2 t c =
@@ -401,10 +298,6 @@ unfolding pat_object_items pat_object_turn
 pat_object_items-loop-table-preserved t c =
     record { ready = (c.pat_object_key-t.ensures.under 0).ready c.if-t-ne0-2.false; under = λ m. inv_again (c.loop-table.invariant.under m) (look c.peek-k.ensures (if_no (ne_eqb _ _ c.if-k-eq-DOT_DOT.false) (if_yes (sym c.is_object_key.ensures ∙ c.if-is_object_key.true) (both (c.pat_object_key-t.ensures.under _) c.if-t-ne0-2.false (nothing ((c.pat_object_key-t.ensures.under 0).ready c.if-t-ne0-2.false)))))) c.if-t-ne0-2.false (goes_some (c.pat_object_key-t.ensures.under 0) c.if-t-ne0-2.false c.peek-k.ensures (object_key_some _ (sym c.is_object_key.ensures ∙ c.if-is_object_key.true)) pat_object_key_further) }
 
-pub pat_object_items-shape_of-table-in-loop-table : goal.pat_object_items-shape_of-table-in-loop-table
-pat_object_items-shape_of-table-in-loop-table t c =
-    (c.loop-table.invariant.under 0).len
-
 pub pat_object_items-returns-in-loop-table : goal.pat_object_items-returns-in-loop-table
 unfolding pat_object_items pat_object_turn
 pat_object_items-returns-in-loop-table t c =
@@ -413,10 +306,6 @@ pat_object_items-returns-in-loop-table t c =
 pub pat_object_key-bump-t-requires : goal.pat_object_key-bump-t-requires
 pat_object_key-bump-t-requires t c =
     c.requires
-
-pub pat_object_key-shape_of-table-then-t-ne0 : goal.pat_object_key-shape_of-table-then-t-ne0
-pat_object_key-shape_of-table-then-t-ne0 t c =
-    (c.bump-t.ensures.under 0).len
 
 pub pat_object_key-returns-then-t-ne0 : goal.pat_object_key-returns-then-t-ne0
 unfolding pat_object_key
@@ -427,10 +316,6 @@ pub pat_object_key-pat_value-t-requires : goal.pat_object_key-pat_value-t-requir
 pat_object_key-pat_value-t-requires t c =
     (omega (arith, c.decreases, (c.bump-t.ensures.under 0).left), (c.bump-t.ensures.under 0).ready c.if-t-ne0.false)
 
-pub pat_object_key-shape_of-table-then-t-ne0-2 : goal.pat_object_key-shape_of-table-then-t-ne0-2
-pat_object_key-shape_of-table-then-t-ne0-2 t c =
-    (c.pat_value-t.ensures.under 0).len ∙ (c.bump-t.ensures.under 0).len
-
 pub pat_object_key-returns-then-t-ne0-2 : goal.pat_object_key-returns-then-t-ne0-2
 unfolding pat_object_key
 pat_object_key-returns-then-t-ne0-2 t c =
@@ -439,10 +324,6 @@ pat_object_key-returns-then-t-ne0-2 t c =
 pub pat_object_key-bump_while-requires : goal.pat_object_key-bump_while-requires
 pat_object_key-bump_while-requires t c =
     (omega arith, (c.pat_value-t.ensures.under 0).ready c.if-t-ne0-2.false)
-
-pub pat_object_key-shape_of-table : goal.pat_object_key-shape_of-table
-pat_object_key-shape_of-table t c =
-    (c.bump_while.ensures.under 0).len ∙ ((c.pat_value-t.ensures.under 0).len ∙ (c.bump-t.ensures.under 0).len)
 
 pub pat_object_key-returns : goal.pat_object_key-returns
 unfolding pat_object_key
@@ -457,10 +338,6 @@ pub pat_or_rest-bump-requires : goal.pat_or_rest-bump-requires
 pat_or_rest-bump-requires t c =
     c.requires
 
-pub pat_or_rest-shape_of-table-then-peek-eq-DOT_DOT : goal.pat_or_rest-shape_of-table-then-peek-eq-DOT_DOT
-pat_or_rest-shape_of-table-then-peek-eq-DOT_DOT t c =
-    (c.bump.ensures.under 0).len
-
 pub pat_or_rest-returns-then-peek-eq-DOT_DOT : goal.pat_or_rest-returns-then-peek-eq-DOT_DOT
 unfolding pat_or_rest
 pat_or_rest-returns-then-peek-eq-DOT_DOT t c =
@@ -469,10 +346,6 @@ pat_or_rest-returns-then-peek-eq-DOT_DOT t c =
 pub pat_or_rest-pat-requires : goal.pat_or_rest-pat-requires
 pat_or_rest-pat-requires t c =
     (omega (arith, c.decreases), c.requires)
-
-pub pat_or_rest-shape_of-table : goal.pat_or_rest-shape_of-table
-pat_or_rest-shape_of-table t c =
-    (c.pat.ensures.under 0).len
 
 pub pat_or_rest-returns : goal.pat_or_rest-returns
 unfolding pat_or_rest
@@ -483,10 +356,6 @@ pub pat_parens-bump-t-requires : goal.pat_parens-bump-t-requires
 pat_parens-bump-t-requires t c =
     c.requires
 
-pub pat_parens-shape_of-table-then-t-ne0 : goal.pat_parens-shape_of-table-then-t-ne0
-pat_parens-shape_of-table-then-t-ne0 t c =
-    (c.bump-t.ensures.under 0).len
-
 pub pat_parens-returns-then-t-ne0 : goal.pat_parens-returns-then-t-ne0
 unfolding pat_parens
 pat_parens-returns-then-t-ne0 t c =
@@ -495,10 +364,6 @@ pat_parens-returns-then-t-ne0 t c =
 pub pat_parens-pat_items-t-requires : goal.pat_parens-pat_items-t-requires
 pat_parens-pat_items-t-requires t c =
     (omega (arith, c.decreases, (c.bump-t.ensures.under 0).left), (c.bump-t.ensures.under 0).ready c.if-t-ne0.false)
-
-pub pat_parens-shape_of-table-then-t-ne0-2 : goal.pat_parens-shape_of-table-then-t-ne0-2
-pat_parens-shape_of-table-then-t-ne0-2 t c =
-    (c.pat_items-t.ensures.under 0).len ∙ (c.bump-t.ensures.under 0).len
 
 pub pat_parens-returns-then-t-ne0-2 : goal.pat_parens-returns-then-t-ne0-2
 unfolding pat_parens
@@ -509,10 +374,6 @@ pub pat_parens-bump_if-requires : goal.pat_parens-bump_if-requires
 pat_parens-bump_if-requires t c =
     (c.pat_items-t.ensures.under 0).ready c.if-t-ne0-2.false
 
-pub pat_parens-shape_of-table : goal.pat_parens-shape_of-table
-pat_parens-shape_of-table t c =
-    (c.bump_if.ensures.under 0).len ∙ ((c.pat_items-t.ensures.under 0).len ∙ (c.bump-t.ensures.under 0).len)
-
 pub pat_parens-returns : goal.pat_parens-returns
 unfolding pat_parens
 pat_parens-returns t c =
@@ -522,10 +383,6 @@ pub pat_path-mark-t-requires : goal.pat_path-mark-t-requires
 pat_path-mark-t-requires t c =
     c.requires
 
-pub pat_path-shape_of-table-then-t-ne0 : goal.pat_path-shape_of-table-then-t-ne0
-pat_path-shape_of-table-then-t-ne0 t c =
-    (c.mark-t.ensures.under 0).len
-
 pub pat_path-returns-then-t-ne0 : goal.pat_path-returns-then-t-ne0
 unfolding pat_path
 pat_path-returns-then-t-ne0 t c =
@@ -534,10 +391,6 @@ pat_path-returns-then-t-ne0 t c =
 pub pat_path-path-t-requires : goal.pat_path-path-t-requires
 pat_path-path-t-requires t c =
     (c.mark-t.ensures.under 0).ready c.if-t-ne0.false
-
-pub pat_path-shape_of-table-then-t-ne0-2 : goal.pat_path-shape_of-table-then-t-ne0-2
-pat_path-shape_of-table-then-t-ne0-2 t c =
-    (c.path-t.ensures.under 0).len ∙ (c.mark-t.ensures.under 0).len
 
 pub pat_path-returns-then-t-ne0-2 : goal.pat_path-returns-then-t-ne0-2
 unfolding pat_path
@@ -552,10 +405,6 @@ pub pat_path-pat_object-t-requires : goal.pat_path-pat_object-t-requires
 pat_path-pat_object-t-requires t c =
     (omega (arith, c.decreases, (c.mark-t.ensures.under 0).left, (c.path-t.ensures.under 0).left), (c.path-t.ensures.under 0).ready c.if-t-ne0-2.false)
 
-pub pat_path-shape_of-table-then-t-ne0-3 : goal.pat_path-shape_of-table-then-t-ne0-3
-pat_path-shape_of-table-then-t-ne0-3 t c =
-    (c.pat_object-t.ensures.under 0).len ∙ ((c.path-t.ensures.under 0).len ∙ (c.mark-t.ensures.under 0).len)
-
 pub pat_path-returns-then-t-ne0-3 : goal.pat_path-returns-then-t-ne0-3
 unfolding pat_path
 pat_path-returns-then-t-ne0-3 t c =
@@ -563,11 +412,7 @@ pat_path-returns-then-t-ne0-3 t c =
 
 pub pat_path-close_at-requires : goal.pat_path-close_at-requires
 pat_path-close_at-requires t c =
-    (step_marked (c.pat_object-t.ensures.under _) c.if-t-ne0-3.false (step_marked (c.path-t.ensures.under _) c.if-t-ne0-2.false (marked_now)), (c.pat_object-t.ensures.under 0).ready c.if-t-ne0-3.false)
-
-pub pat_path-shape_of-table-then-k-eq-BRACE : goal.pat_path-shape_of-table-then-k-eq-BRACE
-pat_path-shape_of-table-then-k-eq-BRACE t c =
-    c.close_at.ensures.len ∙ ((c.pat_object-t.ensures.under 0).len ∙ ((c.path-t.ensures.under 0).len ∙ (c.mark-t.ensures.under 0).len))
+    (step_marked (c.pat_object-t.ensures.under _) c.if-t-ne0-3.false (step_marked (c.path-t.ensures.under _) c.if-t-ne0-2.false marked_now), (c.pat_object-t.ensures.under 0).ready c.if-t-ne0-3.false)
 
 pub pat_path-returns-then-k-eq-BRACE : goal.pat_path-returns-then-k-eq-BRACE
 unfolding pat_path
@@ -578,10 +423,6 @@ pub pat_path-pat_parens-t-requires : goal.pat_path-pat_parens-t-requires
 pat_path-pat_parens-t-requires t c =
     (omega (arith, c.decreases, (c.mark-t.ensures.under 0).left, (c.path-t.ensures.under 0).left), (c.path-t.ensures.under 0).ready c.if-t-ne0-2.false)
 
-pub pat_path-shape_of-table-then-t-ne0-4 : goal.pat_path-shape_of-table-then-t-ne0-4
-pat_path-shape_of-table-then-t-ne0-4 t c =
-    (c.pat_parens-t.ensures.under 0).len ∙ ((c.path-t.ensures.under 0).len ∙ (c.mark-t.ensures.under 0).len)
-
 pub pat_path-returns-then-t-ne0-4 : goal.pat_path-returns-then-t-ne0-4
 unfolding pat_path
 pat_path-returns-then-t-ne0-4 t c =
@@ -589,20 +430,12 @@ pat_path-returns-then-t-ne0-4 t c =
 
 pub pat_path-close_at-requires-then-k-eq-PAREN : goal.pat_path-close_at-requires-then-k-eq-PAREN
 pat_path-close_at-requires-then-k-eq-PAREN t c =
-    (step_marked (c.pat_parens-t.ensures.under _) c.if-t-ne0-4.false (step_marked (c.path-t.ensures.under _) c.if-t-ne0-2.false (marked_now)), (c.pat_parens-t.ensures.under 0).ready c.if-t-ne0-4.false)
-
-pub pat_path-shape_of-table-then-k-eq-PAREN : goal.pat_path-shape_of-table-then-k-eq-PAREN
-pat_path-shape_of-table-then-k-eq-PAREN t c =
-    c.close_at-then-k-eq-PAREN.ensures.len ∙ ((c.pat_parens-t.ensures.under 0).len ∙ ((c.path-t.ensures.under 0).len ∙ (c.mark-t.ensures.under 0).len))
+    (step_marked (c.pat_parens-t.ensures.under _) c.if-t-ne0-4.false (step_marked (c.path-t.ensures.under _) c.if-t-ne0-2.false marked_now), (c.pat_parens-t.ensures.under 0).ready c.if-t-ne0-4.false)
 
 pub pat_path-returns-then-k-eq-PAREN : goal.pat_path-returns-then-k-eq-PAREN
 unfolding pat_path
 pat_path-returns-then-k-eq-PAREN t c =
     scoped c.mark-t.ensures c.if-t-ne0.false (both (c.path-t.ensures.under _) c.if-t-ne0-2.false (look c.peek-k.ensures (if_no (ne_eqb _ _ c.if-k-eq-BRACE.false) (if_yes (eq-eqb _ _ c.if-k-eq-PAREN.true) (both (c.pat_parens-t.ensures.under _) c.if-t-ne0-4.false c.close_at-then-k-eq-PAREN.ensures)))))
-
-pub pat_path-shape_of-table : goal.pat_path-shape_of-table
-pat_path-shape_of-table t c =
-    (c.path-t.ensures.under 0).len ∙ (c.mark-t.ensures.under 0).len
 
 pub pat_path-returns : goal.pat_path-returns
 unfolding pat_path
@@ -613,10 +446,6 @@ pub pat_text-mark-t-requires : goal.pat_text-mark-t-requires
 pat_text-mark-t-requires t c =
     c.requires
 
-pub pat_text-shape_of-table-then-t-ne0 : goal.pat_text-shape_of-table-then-t-ne0
-pat_text-shape_of-table-then-t-ne0 t c =
-    (c.mark-t.ensures.under 0).len
-
 pub pat_text-returns-then-t-ne0 : goal.pat_text-returns-then-t-ne0
 unfolding pat_text
 pat_text-returns-then-t-ne0 t c =
@@ -625,10 +454,6 @@ pat_text-returns-then-t-ne0 t c =
 pub pat_text-attributes-t-requires : goal.pat_text-attributes-t-requires
 pat_text-attributes-t-requires t c =
     (c.mark-t.ensures.under 0).ready c.if-t-ne0.false
-
-pub pat_text-shape_of-table-then-t-ne0-2 : goal.pat_text-shape_of-table-then-t-ne0-2
-pat_text-shape_of-table-then-t-ne0-2 t c =
-    (c.attributes-t.ensures.under 0).len ∙ (c.mark-t.ensures.under 0).len
 
 pub pat_text-returns-then-t-ne0-2 : goal.pat_text-returns-then-t-ne0-2
 unfolding pat_text
@@ -647,10 +472,6 @@ pub pat_text-pat_kind-t-requires : goal.pat_text-pat_kind-t-requires
 pat_text-pat_kind-t-requires t c =
     (omega (arith, c.decreases, (c.mark-t.ensures.under 0).left, (c.attributes-t.ensures.under 0).left), (c.attributes-t.ensures.under 0).ready c.if-t-ne0-2.false)
 
-pub pat_text-shape_of-table-then-t-ne0-3 : goal.pat_text-shape_of-table-then-t-ne0-3
-pat_text-shape_of-table-then-t-ne0-3 t c =
-    (c.pat_kind-t.ensures.under 0).len ∙ ((c.attributes-t.ensures.under 0).len ∙ (c.mark-t.ensures.under 0).len)
-
 pub pat_text-returns-then-t-ne0-3 : goal.pat_text-returns-then-t-ne0-3
 unfolding pat_text
 pat_text-returns-then-t-ne0-3 t c =
@@ -658,11 +479,7 @@ pat_text-returns-then-t-ne0-3 t c =
 
 pub pat_text-close_at-requires : goal.pat_text-close_at-requires
 pat_text-close_at-requires t c =
-    (step_marked (c.pat_kind-t.ensures.under _) c.if-t-ne0-3.false (step_marked (c.attributes-t.ensures.under _) c.if-t-ne0-2.false (marked_now)), (c.pat_kind-t.ensures.under 0).ready c.if-t-ne0-3.false)
-
-pub pat_text-shape_of-table : goal.pat_text-shape_of-table
-pat_text-shape_of-table t c =
-    c.close_at.ensures.len ∙ ((c.pat_kind-t.ensures.under 0).len ∙ ((c.attributes-t.ensures.under 0).len ∙ (c.mark-t.ensures.under 0).len))
+    (step_marked (c.pat_kind-t.ensures.under _) c.if-t-ne0-3.false (step_marked (c.attributes-t.ensures.under _) c.if-t-ne0-2.false marked_now), (c.pat_kind-t.ensures.under 0).ready c.if-t-ne0-3.false)
 
 pub pat_text-returns : goal.pat_text-returns
 unfolding pat_text
@@ -673,10 +490,6 @@ pub pat_value-bump_if-t-requires : goal.pat_value-bump_if-t-requires
 pat_value-bump_if-t-requires t c =
     c.requires
 
-pub pat_value-shape_of-table-then-t-ne0 : goal.pat_value-shape_of-table-then-t-ne0
-pat_value-shape_of-table-then-t-ne0 t c =
-    (c.bump_if-t.ensures.under 0).len
-
 pub pat_value-returns-then-t-ne0 : goal.pat_value-returns-then-t-ne0
 unfolding pat_value
 pat_value-returns-then-t-ne0 t c =
@@ -686,18 +499,10 @@ pub pat_value-pat-requires : goal.pat_value-pat-requires
 pat_value-pat-requires t c =
     (omega (arith, c.decreases, (c.bump_if-t.ensures.under 0).left), (c.bump_if-t.ensures.under 0).ready c.if-t-ne0.false)
 
-pub pat_value-shape_of-table-then-t-eq1 : goal.pat_value-shape_of-table-then-t-eq1
-pat_value-shape_of-table-then-t-eq1 t c =
-    (c.pat.ensures.under 0).len ∙ (c.bump_if-t.ensures.under 0).len
-
 pub pat_value-returns-then-t-eq1 : goal.pat_value-returns-then-t-eq1
 unfolding pat_value
 pat_value-returns-then-t-eq1 t c =
     record { under = λ m. both (c.bump_if-t.ensures.under _) c.if-t-ne0.false (if_yes (eq-eqb _ _ c.if-t-eq1.true) (c.pat.ensures.under _)) }
-
-pub pat_value-shape_of-table : goal.pat_value-shape_of-table
-pat_value-shape_of-table t c =
-    (c.bump_if-t.ensures.under 0).len
 
 pub pat_value-returns : goal.pat_value-returns
 unfolding pat_value

@@ -1,3 +1,4 @@
+-- Written by tools/walk.py from the code and its program; docs/CONTRIBUTING.md says how.
 -- Assumes nothing.
 use Prim.Native.Nat.{◌+◌, ◌*◌}
 use Rattle.definition.specs.Grammar.{pat_items, pat_object_items}
@@ -48,7 +49,7 @@ decreases-pat_value l = 8 * l.tape.left + 1
 
 abbrev pub invariant-pat_items-loop-table : goal.invariant-pat_items-loop-table
 invariant-pat_items-loop-table l =
-    Loop (pat_items) (pat_items) l.initial.t l.t l.kinds l.lens l.initial.table l.table
+    Loop pat_items pat_items l.initial.t l.t l.kinds l.lens l.initial.table l.table
 
 abbrev pub decreases-pat_items-loop-table : goal.decreases-pat_items-loop-table
 decreases-pat_items-loop-table l =
@@ -56,7 +57,7 @@ decreases-pat_items-loop-table l =
 
 abbrev pub invariant-pat_object_items-loop-table : goal.invariant-pat_object_items-loop-table
 invariant-pat_object_items-loop-table l =
-    Loop (pat_object_items) (pat_object_items) l.initial.t l.t l.kinds l.lens l.initial.table l.table
+    Loop pat_object_items pat_object_items l.initial.t l.t l.kinds l.lens l.initial.table l.table
 
 abbrev pub decreases-pat_object_items-loop-table : goal.decreases-pat_object_items-loop-table
 decreases-pat_object_items-loop-table l =

@@ -26,10 +26,6 @@ pub pat-t-requires : goal.pat-t-requires
 pat-t-requires c =
     c.loop-table.invariant.ready
 
-pub shape_of-table-then-t-ne0 : goal.shape_of-table-then-t-ne0
-shape_of-table-then-t-ne0 c =
-    (c.pat-t.ensures.under 0).len ∙ (c.loop-table.invariant.under 0).len
-
 pub returns-then-t-ne0 : goal.returns-then-t-ne0
 unfolding pat_list while_turn
 returns-then-t-ne0 c =
@@ -38,10 +34,6 @@ returns-then-t-ne0 c =
 pub bump_while-t-requires : goal.bump_while-t-requires
 bump_while-t-requires c =
     (omega arith, (c.pat-t.ensures.under 0).ready c.if-t-ne0.false)
-
-pub shape_of-table-then-t-ne0-2 : goal.shape_of-table-then-t-ne0-2
-shape_of-table-then-t-ne0-2 c =
-    (c.bump_while-t.ensures.under 0).len ∙ ((c.pat-t.ensures.under 0).len ∙ (c.loop-table.invariant.under 0).len)
 
 pub returns-then-t-ne0-2 : goal.returns-then-t-ne0-2
 unfolding pat_list while_turn
@@ -56,10 +48,6 @@ pub loop-table-preserved : goal.loop-table-preserved
 unfolding pat_list while_turn
 loop-table-preserved c =
     record { ready = (c.bump_while-t.ensures.under 0).ready c.if-t-ne0-2.false; under = λ m. inv_again (c.loop-table.invariant.under m) (ask_glued c.peek.ensures c.glued.ensures (if_yes (sym c.is_pat.ensures ∙ c.loop-table-test.true) (both (both (c.pat-t.ensures.under _) c.if-t-ne0.false (ends (c.bump_while-t.ensures.under _))) c.if-t-ne0-2.false (nothing ((c.bump_while-t.ensures.under 0).ready c.if-t-ne0-2.false))))) c.if-t-ne0-2.false (and_on (goes_glued (c.pat-t.ensures.under 0) c.if-t-ne0.false c.peek.ensures c.glued.ensures kind_is_pat (sym c.is_pat.ensures ∙ c.loop-table-test.true) pat_further) (c.bump_while-t.ensures.under 0) c.if-t-ne0-2.false) }
-
-pub shape_of-table : goal.shape_of-table
-shape_of-table c =
-    (c.loop-table.invariant.under 0).len
 
 pub returns : goal.returns
 unfolding pat_list while_turn

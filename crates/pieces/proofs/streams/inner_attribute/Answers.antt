@@ -1,6 +1,5 @@
 -- Written by tools/walk.py from the code and its program; docs/CONTRIBUTING.md says how.
 -- Assumes nothing.
-use mathlib.Core.Path.{◌∙◌}
 use Rattle.definition.specs.Grammar.{inner_attribute}
 use Rattle.tape.specs.Steps.{marked_now, step_marked, both, cut, ends, scoped, unscoped}
 use Rattle.pieces.proofs.streams.inner_attribute.Goals as goal
@@ -8,10 +7,6 @@ use Rattle.pieces.proofs.streams.inner_attribute.Goals as goal
 pub mark-t-requires : goal.mark-t-requires
 mark-t-requires c =
     c.requires
-
-pub shape_of-table-then-t-ne0 : goal.shape_of-table-then-t-ne0
-shape_of-table-then-t-ne0 c =
-    (c.mark-t.ensures.under 0).len
 
 pub returns-then-t-ne0 : goal.returns-then-t-ne0
 unfolding inner_attribute
@@ -22,10 +17,6 @@ pub bump-t-requires : goal.bump-t-requires
 bump-t-requires c =
     (c.mark-t.ensures.under 0).ready c.if-t-ne0.false
 
-pub shape_of-table-then-t-ne0-2 : goal.shape_of-table-then-t-ne0-2
-shape_of-table-then-t-ne0-2 c =
-    (c.bump-t.ensures.under 0).len ∙ (c.mark-t.ensures.under 0).len
-
 pub returns-then-t-ne0-2 : goal.returns-then-t-ne0-2
 unfolding inner_attribute
 returns-then-t-ne0-2 c =
@@ -34,10 +25,6 @@ returns-then-t-ne0-2 c =
 pub bump_if-t-requires : goal.bump_if-t-requires
 bump_if-t-requires c =
     (c.bump-t.ensures.under 0).ready c.if-t-ne0-2.false
-
-pub shape_of-table-then-t-ne0-3 : goal.shape_of-table-then-t-ne0-3
-shape_of-table-then-t-ne0-3 c =
-    (c.bump_if-t.ensures.under 0).len ∙ ((c.bump-t.ensures.under 0).len ∙ (c.mark-t.ensures.under 0).len)
 
 pub returns-then-t-ne0-3 : goal.returns-then-t-ne0-3
 unfolding inner_attribute
@@ -48,10 +35,6 @@ pub attribute_stream-t-requires : goal.attribute_stream-t-requires
 attribute_stream-t-requires c =
     (c.bump_if-t.ensures.under 0).ready c.if-t-ne0-3.false
 
-pub shape_of-table-then-t-ne0-4 : goal.shape_of-table-then-t-ne0-4
-shape_of-table-then-t-ne0-4 c =
-    (c.attribute_stream-t.ensures.under 0).len ∙ ((c.bump_if-t.ensures.under 0).len ∙ ((c.bump-t.ensures.under 0).len ∙ (c.mark-t.ensures.under 0).len))
-
 pub returns-then-t-ne0-4 : goal.returns-then-t-ne0-4
 unfolding inner_attribute
 returns-then-t-ne0-4 c =
@@ -59,11 +42,7 @@ returns-then-t-ne0-4 c =
 
 pub close_at-requires : goal.close_at-requires
 close_at-requires c =
-    (step_marked (c.attribute_stream-t.ensures.under _) c.if-t-ne0-4.false (step_marked (c.bump_if-t.ensures.under _) c.if-t-ne0-3.false (step_marked (c.bump-t.ensures.under _) c.if-t-ne0-2.false (marked_now))), (c.attribute_stream-t.ensures.under 0).ready c.if-t-ne0-4.false)
-
-pub shape_of-table : goal.shape_of-table
-shape_of-table c =
-    c.close_at.ensures.len ∙ ((c.attribute_stream-t.ensures.under 0).len ∙ ((c.bump_if-t.ensures.under 0).len ∙ ((c.bump-t.ensures.under 0).len ∙ (c.mark-t.ensures.under 0).len)))
+    (step_marked (c.attribute_stream-t.ensures.under _) c.if-t-ne0-4.false (step_marked (c.bump_if-t.ensures.under _) c.if-t-ne0-3.false (step_marked (c.bump-t.ensures.under _) c.if-t-ne0-2.false marked_now)), (c.attribute_stream-t.ensures.under 0).ready c.if-t-ne0-4.false)
 
 pub returns : goal.returns
 unfolding inner_attribute

@@ -24,10 +24,6 @@ pub inner_attribute-t-requires : goal.inner_attribute-t-requires
 inner_attribute-t-requires c =
     c.loop-table.invariant.ready
 
-pub shape_of-table-then-t-ne0 : goal.shape_of-table-then-t-ne0
-shape_of-table-then-t-ne0 c =
-    (c.inner_attribute-t.ensures.under 0).len ∙ (c.loop-table.invariant.under 0).len
-
 pub returns-then-t-ne0 : goal.returns-then-t-ne0
 unfolding inner_attributes while_turn
 returns-then-t-ne0 c =
@@ -41,10 +37,6 @@ pub loop-table-preserved : goal.loop-table-preserved
 unfolding inner_attributes while_turn
 loop-table-preserved c =
     record { ready = (c.inner_attribute-t.ensures.under 0).ready c.if-t-ne0.false; under = λ m. inv_again (c.loop-table.invariant.under m) (ask_glued c.peek.ensures c.glued.ensures (if_yes (sym c.glues.ensures ∙ c.loop-table-test.true) (both (c.inner_attribute-t.ensures.under _) c.if-t-ne0.false (nothing ((c.inner_attribute-t.ensures.under 0).ready c.if-t-ne0.false))))) c.if-t-ne0.false (goes_some (c.inner_attribute-t.ensures.under 0) c.if-t-ne0.false c.peek.ensures (glues_some _ _ _ _ refl (sym c.glues.ensures ∙ c.loop-table-test.true)) inner_attribute_further) }
-
-pub shape_of-table : goal.shape_of-table
-shape_of-table c =
-    (c.loop-table.invariant.under 0).len
 
 pub returns : goal.returns
 unfolding inner_attributes while_turn

@@ -1,6 +1,5 @@
 -- Written by tools/walk.py from the code and its program; docs/CONTRIBUTING.md says how.
 -- Assumes nothing.
-use mathlib.Core.Path.{◌∙◌}
 use native.Mathlib.Omega.{arith}
 use Rattle.definition.specs.Grammar.{label}
 use Rattle.tape.specs.Steps.{both, cut, ends}
@@ -10,10 +9,6 @@ pub bump-t-requires : goal.bump-t-requires
 bump-t-requires c =
     c.requires
 
-pub shape_of-table-then-t-ne0 : goal.shape_of-table-then-t-ne0
-shape_of-table-then-t-ne0 c =
-    (c.bump-t.ensures.under 0).len
-
 pub returns-then-t-ne0 : goal.returns-then-t-ne0
 unfolding label
 returns-then-t-ne0 c =
@@ -22,10 +17,6 @@ returns-then-t-ne0 c =
 pub bump_while-requires : goal.bump_while-requires
 bump_while-requires c =
     (omega arith, (c.bump-t.ensures.under 0).ready c.if-t-ne0.false)
-
-pub shape_of-table : goal.shape_of-table
-shape_of-table c =
-    (c.bump_while.ensures.under 0).len ∙ (c.bump-t.ensures.under 0).len
 
 pub returns : goal.returns
 unfolding label

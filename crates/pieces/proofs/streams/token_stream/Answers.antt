@@ -1,6 +1,5 @@
 -- Written by tools/walk.py from the code and its program; docs/CONTRIBUTING.md says how.
 -- Assumes nothing.
-use mathlib.Core.Path.{◌∙◌}
 use Rattle.definition.specs.Grammar.{token_stream}
 use Rattle.tape.specs.Steps.{marked_now, step_marked, both, cut, scoped, unscoped}
 use Rattle.pieces.proofs.streams.token_stream.Goals as goal
@@ -8,10 +7,6 @@ use Rattle.pieces.proofs.streams.token_stream.Goals as goal
 pub mark-t-requires : goal.mark-t-requires
 mark-t-requires c =
     c.requires
-
-pub shape_of-table-then-t-ne0 : goal.shape_of-table-then-t-ne0
-shape_of-table-then-t-ne0 c =
-    (c.mark-t.ensures.under 0).len
 
 pub returns-then-t-ne0 : goal.returns-then-t-ne0
 unfolding token_stream
@@ -22,10 +17,6 @@ pub stream-t-requires : goal.stream-t-requires
 stream-t-requires c =
     (c.mark-t.ensures.under 0).ready c.if-t-ne0.false
 
-pub shape_of-table-then-t-ne0-2 : goal.shape_of-table-then-t-ne0-2
-shape_of-table-then-t-ne0-2 c =
-    (c.stream-t.ensures.under 0).len ∙ (c.mark-t.ensures.under 0).len
-
 pub returns-then-t-ne0-2 : goal.returns-then-t-ne0-2
 unfolding token_stream
 returns-then-t-ne0-2 c =
@@ -33,11 +24,7 @@ returns-then-t-ne0-2 c =
 
 pub close_at-requires : goal.close_at-requires
 close_at-requires c =
-    (step_marked (c.stream-t.ensures.under _) c.if-t-ne0-2.false (marked_now), (c.stream-t.ensures.under 0).ready c.if-t-ne0-2.false)
-
-pub shape_of-table : goal.shape_of-table
-shape_of-table c =
-    c.close_at.ensures.len ∙ ((c.stream-t.ensures.under 0).len ∙ (c.mark-t.ensures.under 0).len)
+    (step_marked (c.stream-t.ensures.under _) c.if-t-ne0-2.false marked_now, (c.stream-t.ensures.under 0).ready c.if-t-ne0-2.false)
 
 pub returns : goal.returns
 unfolding token_stream
