@@ -735,16 +735,17 @@ def ranks(fns):
     return {f.name: rank_of(f.name) for f in fns}
 
 
-def imports(text, more):
-    """Those of the imports that a text cites."""
+def imports(text, words, uses):
+    """The imports that a text cites: of a name, the words' own before a law's, and that before the one that the file had."""
     cited = {t.split('.')[0] for t in re.split(r'[\s(){},;]+', text)} - {''}
     lines = LAWS.replace('GRAMMAR', ', '.join(sorted(UNFOLDABLE | {'while', 'not_eof'}))).replace('CUTS', ', '.join(sorted(CUT)))
     lines = lines.replace('FURTHER', ', '.join(sorted(n for n in cited if n.endswith('_further'))))
-    out, given = '', set()
-    for line in lines.split('\n') + more:
+    out = ''
+    for line in words + lines.split('\n') + uses:
         module, names = re.fullmatch(r'use (\S+)\.\{(.*)\}', line).groups()
-        kept = [n for n in names.split(', ') if n.split(' as ')[-1].strip('◌') in cited and n not in given]
-        given.update(kept)
+        names = {n.split(' as ')[-1].strip('◌'): n for n in names.split(', ')}
+        kept = [n for name, n in names.items() if name in cited]
+        cited -= set(names)
         if kept:
             out += f"use {module}.{{{', '.join(kept)}}}\n"
     return out
@@ -765,7 +766,7 @@ def write(path, goals, found, more):
         os.makedirs(os.path.dirname(path), exist_ok=True)
         unit = os.path.dirname(path)[len('crates/'):].replace('/', '.')
         module = f"Rattle.{unit}.{'Goals' if path.endswith('Answers.antt') else 'Given'}"
-        open(path, 'w').write(f'{HEAD}{imports(text, more + uses)}use {module} as goal\n\n{text}')
+        open(path, 'w').write(f'{HEAD}{imports(text, more, uses)}use {module} as goal\n\n{text}')
 
 
 def prove(fns, record, known, defs, words):

@@ -1,5 +1,8 @@
 -- Written by tools/walk.py from the code and its program; docs/CONTRIBUTING.md says how.
 -- Assumes nothing.
+use Rattle.grammar.specs.Loops.{operator_goes, nest_goes, chain_goes}
+use Rattle.grammar.specs.Looked.{looked, read_as}
+use Rattle.grammar.specs.Idle.{looked_for, idle_op}
 use mathlib.Core.Path.{refl, sym, ap, ◌∙◌}
 use mathlib.Core.Bool.{true, false}
 use mathlib.Core.Logic.{inl, inr}
@@ -12,9 +15,6 @@ use Rattle.tape.specs.declared.Tape.{Tape}
 use Rattle.tape.specs.Steps.{burns, here_few, marked_now, step_marked, held, held_now, followed, not_key, both, cut, refusal, ends, if_yes, if_no, look, touch, spot, ask, ask_glued, ask_second_as, scoped, unscoped, nothing, answered, says, kept, refuses, refused_tape, inv_start, inv_again, inv_end, last, last_cut}
 use Rattle.tape.specs.Counted.{deep, entered, entered_bool, barred, goes_on, goes_some, goes_glued, and_on}
 use Rattle.grammar.specs.Cuts.{outer_assign, outer_chain, outer_op, outer_rest, primary_last, primary_sign, primary_word, stmt_inner, stmt_kind, stmt_outer}
-use Rattle.grammar.specs.Loops.{operator_goes, nest_goes, chain_goes}
-use Rattle.grammar.specs.Looked.{looked, read_as}
-use Rattle.grammar.specs.Idle.{looked_for, idle_op}
 use Rattle.grammar.proofs.+grammar.Goals as goal
 
 pub a-peek-requires : goal.a-peek-requires

@@ -1,12 +1,12 @@
 -- Written by tools/walk.py from the code and its program; docs/CONTRIBUTING.md says how.
 -- Assumes nothing.
+use Rattle.grammar.specs.Loops.{Binding, Tightening}
+use Rattle.kinds.specs.Modes.{brace_of, cx_of}
 use Prim.Native.Nat.{◌+◌, ◌*◌}
 use mathlib.Core.Bool.{false}
 use Rattle.definition.specs.Prog.{repeat}
 use Rattle.definition.specs.Grammar.{block_stmts, chain_turn, else_branches, expr_list, match_list, object_fields, select_list, tuple_turn}
 use Rattle.tape.specs.Steps.{Loop, fuel}
-use Rattle.grammar.specs.Loops.{Binding, Tightening}
-use Rattle.kinds.specs.Modes.{brace_of, cx_of}
 use Rattle.grammar.proofs.+grammar.Given as goal
 
 abbrev pub decreases-a : goal.decreases-a

@@ -1,11 +1,10 @@
 -- Written by tools/walk.py from the code and its program; docs/CONTRIBUTING.md says how.
 -- Assumes nothing.
-use mathlib.Core.Path.{sym, ◌∙◌}
-use native.Mathlib.Omega.{arith}
-use Rattle.definition.specs.Grammar.{exprs}
-use Rattle.definition.specs.Parse.{program, is_limit}
+use Rattle.definition.specs.Parse.{exprs, program, is_limit}
 use Rattle.entry.specs.Whole.{entry_refused, entry_parsed, counted}
 use Rattle.krosstavel.specs.Starting.{marked_start, limit_few, checked_valid, fine, treated_some}
+use mathlib.Core.Path.{sym, ◌∙◌}
+use native.Mathlib.Omega.{arith}
 use Rattle.krosstavel.proofs.exprs_rows.Goals as goal
 
 pub returns-then-f-ne0 : goal.returns-then-f-ne0

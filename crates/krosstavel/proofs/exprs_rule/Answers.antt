@@ -1,12 +1,12 @@
 -- Written by tools/walk.py from the code and its program; docs/CONTRIBUTING.md says how.
 -- Assumes nothing.
+use Rattle.krosstavel.specs.Starting.{same_step}
 use mathlib.Core.Path.{sym, ap, ◌∙◌}
 use native.Mathlib.Omega.{arith}
 use Rattle.definition.specs.Grammar.{bump_while, exprs, separated, while_turn}
 use Rattle.laws.specs.Progress.{expr_further}
 use Rattle.tape.specs.Steps.{burns, both, cut, refusal, ends, if_yes, if_no, ask, nothing, inv_start, inv_again, inv_end, last, last_cut}
 use Rattle.tape.specs.Counted.{goes_on, and_on}
-use Rattle.krosstavel.specs.Starting.{same_step}
 use Rattle.krosstavel.proofs.exprs_rule.Goals as goal
 
 pub loop-table-init : goal.loop-table-init

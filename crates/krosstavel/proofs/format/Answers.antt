@@ -1,7 +1,7 @@
 -- Written by tools/walk.py from the code and its program; docs/CONTRIBUTING.md says how.
 -- Assumes nothing.
-use native.Mathlib.Omega.{arith}
 use Rattle.entry.specs.Table.{settled}
+use native.Mathlib.Omega.{arith}
 use Rattle.krosstavel.proofs.format.Goals as goal
 
 pub settle-requires : goal.settle-requires

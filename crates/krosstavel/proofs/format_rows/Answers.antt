@@ -1,7 +1,6 @@
 -- Written by tools/walk.py from the code and its program; docs/CONTRIBUTING.md says how.
 -- Assumes nothing.
-use Rattle.definition.specs.Grammar.{format}
-use Rattle.definition.specs.Parse.{program}
+use Rattle.definition.specs.Parse.{format, program}
 use Rattle.entry.specs.Whole.{entry_refused, entry_parsed, counted}
 use Rattle.krosstavel.specs.Starting.{marked_start, limit_few, valid_format}
 use Rattle.krosstavel.proofs.format_rows.Goals as goal

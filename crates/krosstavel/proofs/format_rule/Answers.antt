@@ -1,11 +1,11 @@
 -- Written by tools/walk.py from the code and its program; docs/CONTRIBUTING.md says how.
 -- Assumes nothing.
+use Rattle.krosstavel.specs.Starting.{some_is_some}
 use mathlib.Core.Path.{sym, ◌∙◌}
 use Rattle.definition.specs.Grammar.{format, while_turn}
 use Rattle.laws.specs.Progress.{bump_further}
 use Rattle.tape.specs.Steps.{burns, step_marked, both, cut, if_yes, if_no, ask, nothing, inv_start, inv_again, inv_end, last, last_cut}
 use Rattle.tape.specs.Counted.{goes_some}
-use Rattle.krosstavel.specs.Starting.{some_is_some}
 use Rattle.krosstavel.proofs.format_rule.Goals as goal
 
 pub p-t-requires : goal.p-t-requires
