@@ -2,7 +2,7 @@
 
 A program is a tuple:
   ('ret', text)            an answer                 ('call', name, args)    a step or a rule
-  ('seq', binder, P, Q)    P, its answer bound, Q    ('test', cond, P, Q)    if cond then P else Q
+  ('seq', binder, P, Q)    P, its answer bound, Q    ('test', cond, P, Q)    if cond then P otherwise Q
   ('scope', c, P)          checkpoint λ c. P         ('loop', name, args, init)
   ('while', C, P)          the Rust's while          ('look', what)          nth0, glued, here
   ('ask', how)             a test of what is seen: 1 kind, 'g' with the glued one, 2 kinds
@@ -67,7 +67,7 @@ class Parser:
             cond = words(self.until('then'))
             self.i += 1
             yes = self.expr()
-            assert self.peek() == 'else', words(self.ts[self.i:])
+            assert self.peek() == 'otherwise', words(self.ts[self.i:])
             self.i += 1
             return ('test', cond, yes, self.expr())
         p = self.application()
@@ -95,7 +95,7 @@ class Parser:
         args, progs = [], []
         while self.i < len(self.ts):
             w = self.peek()
-            if w in ('>>', '>>=', 'else', 'then', ')', ','):
+            if w in ('>>', '>>=', 'otherwise', 'then', ')', ','):
                 break
             if w == 'do':
                 progs.append(self.block())
