@@ -389,7 +389,7 @@ class Walk:
 
     def ending(self, p, els, i):
         how = 'inl' if p[1].startswith('(inl') else 'inr' if p[1].startswith('(inr') else 'end'
-        answers = how == 'end' and self.fn.answer != 'tt' and not self.inside or how == 'inl' and self.words.get('answers')
+        answers = how == 'end' and self.fn.answer != 'tt' and not self.inside
         # another form of the answer, as the words give it
         for word, end in (('last', 'inr'), ('again', 'inl')):
             if how == end and word in self.words:
@@ -796,7 +796,8 @@ def places_of(crate):
         if not os.path.exists(f'{folder}/names.json'):
             sys.exit(said)
         listed = json.load(open(f'{folder}/names.json'))
-    return {re.split(r'[.-]', key)[-1] if '.Lts-' in key else key.split('.')[-2]: record for key, record in listed.items() if 'places' in record}
+    # a function's key ends in F.Lts, a cycle's member's in +NAME.Lts-F
+    return {key.split('.Lts-')[1] if '.Lts-' in key else key.split('.')[-2]: record for key, record in listed.items() if 'places' in record}
 
 
 def main():
