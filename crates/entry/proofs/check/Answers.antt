@@ -14,7 +14,7 @@ pub returns-then-n-lens : goal.returns-then-n-lens
 returns-then-n-lens c = refuse_pair (ap not c.if-not-valid.false) c.if-n-lens.true c.found-then-n-lens.ensures
 
 pub returns-then-n-gt65535 : goal.returns-then-n-gt65535
-returns-then-n-gt65535 c = refuse_many (ap not c.if-not-valid.false) c.if-n-lens.false c.if-n-gt65535.true c.found-then-n-gt65535.ensures
+returns-then-n-gt65535 c = refuse_many (ap not c.if-not-valid.false) c.if-n-lens.false (omega arith) c.found-then-n-gt65535.ensures
 
 pub found-requires-then-bad-n : goal.found-requires-then-bad-n
 found-requires-then-bad-n c = omega (arith, c.first_not_token-bad.ensures, not_le is_token c.args.kinds.now)
