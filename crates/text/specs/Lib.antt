@@ -1,3 +1,4 @@
 pub mod Copy
 pub mod Line
 pub mod Part
+pub mod Written

@@ -2,12 +2,14 @@
 #![tactic(auto)]
 
 mod fill;
+mod writes;
 
 ghost use Rattle.std.specs.Prelude.{◌≡◌, ltb, length, set};
 ghost use Rattle.text.specs.Line.{longer, stepped, stored, ended, kept, listed, filled};
 ghost use Rattle.text.specs.Copy.{all_bytes, fits, copied};
 
 pub use fill::read_full;
+pub use writes::{put, put_number};
 
 // A line, read up to some byte.
 #[derive(Clone, Copy)]
