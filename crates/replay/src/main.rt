@@ -6,7 +6,8 @@ mod case;
 mod table;
 mod wanted;
 
-ghost use Rattle.std.specs.Prelude.{◌≡◌, true, cond, ◌+◌, ◌≤◌, ◌<◌, length, IfOk};
+ghost use Rattle.std.specs.Prelude.{◌≡◌, true, cond, ◌+◌, ◌≤◌, ◌<◌, length, IfOk, OnErr};
+ghost use Rattle.text.specs.Written.{Grows, Shrinks};
 ghost use Rattle.text.specs.declared.Reading.TheVariants.{Before};
 ghost use Rattle.text.specs.Line.{kept};
 ghost use Rattle.replay.specs.Case.{Decides};
@@ -15,7 +16,7 @@ ghost use Rattle.replay.specs.Input.{LineHolds, Stepped, Fed};
 use case::judge;
 use std::io;
 use std::io::{Read, Write};
-use text::{Listed, Reading, read_full};
+use text::{Listed, Reading, put, put_number, read_full};
 
 // How many cases there were, how many differ, and the line of the first that does (0: none).
 #[derive(Clone, Copy)]
@@ -153,7 +154,9 @@ fn read_piece<R: Read>(
     wanted: &mut [u32],
 ) -> io::Result<Turn>
     requires { (p.tally.differ ≤ p.tally.cases) × (p.tally.cases < 4611686018427387904) }
-    ensures { IfOk result (λ t. (t.place.tally.differ ≤ t.place.tally.cases) × (t.place.tally.cases ≤ p.tally.cases + 4096)) }
+    ensures ok { IfOk result (λ t. (t.place.tally.differ ≤ t.place.tally.cases) × (t.place.tally.cases ≤ p.tally.cases + 4096)) }
+    ensures err { OnErr result ((numbers.new ≡ numbers.old) × (kinds.new ≡ kinds.old) × (table.new ≡ table.old) × (wanted.new ≡ wanted.old)) }
+    ensures shrinks { Shrinks (R.remaining input.old) (R.remaining input.new) }
 {
     let mut buffer = [0u8; 4096];
     let n = read_full(input, &mut buffer)?;
@@ -202,7 +205,8 @@ fn replay<R: Read>(
     table: &mut [u32],
     wanted: &mut [u32],
 ) -> io::Result<Whole>
-    ensures { IfOk result (λ w. w.tally.differ ≤ w.tally.cases) }
+    ensures ok { IfOk result (λ w. w.tally.differ ≤ w.tally.cases) }
+    ensures shrinks { Shrinks (R.remaining input.old) (R.remaining input.new) }
 {
     let none = Tally {
         cases: 0,
@@ -230,17 +234,19 @@ fn replay<R: Read>(
     })
 }
 
-fn show<W: Write>(out: &mut W, t: Tally) -> io::Result<()> {
-    let Tally {
-        cases,
-        differ,
-        first,
-    } = t;
-    write!(out, "{cases} cases, {differ} differ")?;
-    if first != 0 {
-        write!(out, ", the first on line {first}")?;
+fn show<W: Write>(out: &mut W, t: Tally) -> io::Result<()>
+    ensures grows { Grows (W.contents out.old) (W.contents out.new) }
+{
+    put_number(out, t.cases as u64)?;
+    put(out, b" cases, ")?;
+    put_number(out, t.differ as u64)?;
+    put(out, b" differ")?;
+    if t.first == 0 {
+        return put(out, b"\n");
     }
-    out.write_all(b"\n")
+    put(out, b", the first on line ")?;
+    put_number(out, t.first as u64)?;
+    put(out, b"\n")
 }
 
 // Room for the numbers of the longest line, and for a table. (The contracts tell the lengths alone, which is all that lending needs.)
@@ -270,7 +276,7 @@ fn main(rt: HostRuntime) -> io::Result<()> {
     )?;
     let mut out = rt.stdout();
     if !w.whole {
-        return writeln!(out, "the list is too long to be read whole");
+        return put(&mut out, b"the list is too long to be read whole\n");
     }
     show(&mut out, w.tally)
 }
