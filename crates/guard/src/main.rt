@@ -7,11 +7,12 @@ mod scan;
 mod tree;
 
 ghost use Rattle.std.specs.Prelude.{◌≡◌, length};
+ghost use Rattle.text.specs.Written.{Grows};
 
 use scan::find;
 use std::io::Write;
 use std::{fs, io};
-use text::{Listed, read_full};
+use text::{Listed, put, put_number, read_full};
 use tree::print;
 
 // What `exprs` separates expressions by, and the deepest limit.
@@ -19,8 +20,14 @@ const COMMA: u32 = 24;
 
 const DEEPEST: u32 = 256;
 
-fn refused<W: Write>(out: &mut W, number: u32, place: u32) -> io::Result<()> {
-    writeln!(out, "refused with {number} at token {place}")
+fn refused<W: Write>(out: &mut W, number: u32, place: u32) -> io::Result<()>
+    ensures grows { Grows (W.contents out.old) (W.contents out.new) }
+{
+    put(out, b"refused with ")?;
+    put_number(out, number as u64)?;
+    put(out, b" at token ")?;
+    put_number(out, place as u64)?;
+    put(out, b"\n")
 }
 
 // The parser's answer: its tree, or its refusal.
@@ -31,7 +38,9 @@ fn parse<W: Write>(
     lens: &[u32],
     table: &mut [u32],
     names: &[u8],
-) -> io::Result<()> {
+) -> io::Result<()>
+    ensures grows { Grows (W.contents out.old) (W.contents out.new) }
+{
     let a = exports::krosstavel_exprs(kinds, lens, table, COMMA, DEEPEST);
     if a.number != 0 {
         return refused(out, a.number, a.place);
@@ -39,17 +48,21 @@ fn parse<W: Write>(
     print(out, table, a.rows as usize, text, names)
 }
 
-fn no_guard<W: Write>(out: &mut W) -> io::Result<()> {
-    writeln!(
+fn no_guard<W: Write>(out: &mut W) -> io::Result<()>
+    ensures grows { Grows (W.contents out.old) (W.contents out.new) }
+{
+    put(
         out,
-        "no guard: three lines are wanted, its text, its tokens' kinds and their lengths"
+        b"no guard: three lines are wanted, its text, its tokens' kinds and their lengths\n"
     )
 }
 
-fn no_list<W: Write>(out: &mut W) -> io::Result<()> {
-    writeln!(
+fn no_list<W: Write>(out: &mut W) -> io::Result<()>
+    ensures grows { Grows (W.contents out.old) (W.contents out.new) }
+{
+    put(
         out,
-        "no guard: its tokens' kinds and their lengths are decimal numbers with one space between two"
+        b"no guard: its tokens' kinds and their lengths are decimal numbers with one space between two\n"
     )
 }
 
@@ -63,7 +76,9 @@ fn tokens<W: Write>(
     kinds: &mut [u8],
     lens: &mut [u32],
     table: &mut [u32],
-) -> io::Result<()> {
+) -> io::Result<()>
+    ensures grows { Grows (W.contents out.old) (W.contents out.new) }
+{
     let Listed::Numbers(n) = text::numbers(kind_line, lens) else {
         return no_list(out);
     };
@@ -84,7 +99,9 @@ fn guard<W: Write>(
     kinds: &mut [u8],
     lens: &mut [u32],
     table: &mut [u32],
-) -> io::Result<()> {
+) -> io::Result<()>
+    ensures grows { Grows (W.contents out.old) (W.contents out.new) }
+{
     let end = input.len();
     let a = find(input, 0, end, b'\n');
     if a == end {

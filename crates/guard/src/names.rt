@@ -1,11 +1,12 @@
 // The kinds' names, from a list with a line `number name` for each.
 ghost use Rattle.std.specs.Prelude.{◌≡◌, ◌≤◌, length};
 ghost use Rattle.guard.specs.Names.{is_number};
+ghost use Rattle.text.specs.Written.{Grows};
 
 use crate::scan::find;
 use std::io;
 use std::io::Write;
-use text::Listed;
+use text::{Listed, put, put_number};
 
 // Part of a list, from here up to there.
 #[derive(Clone, Copy)]
@@ -54,12 +55,14 @@ fn name(names: &[u8], kind: u32) -> Part
 }
 
 // A kind's name, or its number where the list has none.
-pub fn print_name<W: Write>(out: &mut W, names: &[u8], kind: u32) -> io::Result<()> {
+pub fn print_name<W: Write>(out: &mut W, names: &[u8], kind: u32) -> io::Result<()>
+    ensures grows { Grows (W.contents out.old) (W.contents out.new) }
+{
     let p = name(names, kind);
     let from = p.from;
     let to = p.to;
     if from == to {
-        return write!(out, "{kind}");
+        return put_number(out, kind as u64);
     }
-    out.write_all(&names[from..to])
+    put(out, &names[from..to])
 }

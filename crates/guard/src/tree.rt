@@ -1,10 +1,12 @@
 // A table's rows as a tree, parents first. In the table a node stands behind its subtree, and its `back` is how many rows that has.
 ghost use Rattle.std.specs.Prelude.{◌≡◌, ◌+◌, ◌-◌, ◌*◌, ◌≤◌, ◌<◌, length};
 ghost use Rattle.guard.specs.Tree.{first_of, depth_of};
+ghost use Rattle.text.specs.Written.{Grows};
 
 use crate::names::print_name;
 use std::io;
 use std::io::Write;
+use text::put;
 
 // Where a row's subtree starts: the number of its first row.
 fn first(table: &[u32], row: usize) -> usize
@@ -34,15 +36,19 @@ fn depth(table: &[u32], rows: usize, row: usize) -> usize
     deep
 }
 
-fn indent<W: Write>(out: &mut W, deep: usize) -> io::Result<()> {
+fn indent<W: Write>(out: &mut W, deep: usize) -> io::Result<()>
+    ensures grows { Grows (W.contents out.old) (W.contents out.new) }
+{
     for _ in 0..deep {
-        out.write_all(b"  ")?;
+        put(out, b"  ")?;
     }
     Ok(())
 }
 
 // A leaf's own text.
-fn print_text<W: Write>(out: &mut W, text: &[u8], start: u32, len: u32) -> io::Result<()> {
+fn print_text<W: Write>(out: &mut W, text: &[u8], start: u32, len: u32) -> io::Result<()>
+    ensures grows { Grows (W.contents out.old) (W.contents out.new) }
+{
     let from = start as usize;
     let count = len as usize;
     if from > text.len() {
@@ -52,9 +58,9 @@ fn print_text<W: Write>(out: &mut W, text: &[u8], start: u32, len: u32) -> io::R
         return Ok(());
     }
     let to = from + count;
-    out.write_all(b" `")?;
-    out.write_all(&text[from..to])?;
-    out.write_all(b"`")
+    put(out, b" `")?;
+    put(out, &text[from..to])?;
+    put(out, b"`")
 }
 
 fn print_row<W: Write>(
@@ -66,6 +72,7 @@ fn print_row<W: Write>(
     names: &[u8],
 ) -> io::Result<()>
     requires { (row < rows) × (4 * rows ≤ length table.now) }
+    ensures grows { Grows (W.contents out.old) (W.contents out.new) }
 {
     let at = 4 * row;
     let kind = table[at];
@@ -74,7 +81,7 @@ fn print_row<W: Write>(
     if kind < 128 {
         print_text(out, text, table[at + 2], table[at + 3])?;
     }
-    out.write_all(b"\n")
+    put(out, b"\n")
 }
 
 // The rows whose subtree starts at row f, the outermost first.
@@ -87,6 +94,7 @@ fn chain<W: Write>(
     names: &[u8],
 ) -> io::Result<()>
     requires { 4 * rows ≤ length table.now }
+    ensures grows { Grows (W.contents out.old) (W.contents out.new) }
 {
     let mut row = rows;
     while row > f {
@@ -105,7 +113,9 @@ pub fn print<W: Write>(
     rows: usize,
     text: &[u8],
     names: &[u8],
-) -> io::Result<()> {
+) -> io::Result<()>
+    ensures grows { Grows (W.contents out.old) (W.contents out.new) }
+{
     if rows > table.len() / 4 {
         return Ok(());
     }
