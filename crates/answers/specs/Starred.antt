@@ -5,7 +5,7 @@ use Rattle.std.proofs.Common.{ap}
 use Rattle.definition.specs.Kinds.{K-ident, K-#, K-bracket}
 use Rattle.definition.specs.Parse.{root}
 use Rattle.laws.specs.Known.{Case, answered, promised, known, known_results}
-use Rattle.answers.specs.ShutOut.{Allowed, known as Known-only}
+use Rattle.answers.specs.ShutOut.{Allowed, known as known_only}
 
 -- what is allowed of a case is what it promises: number, place, row count, and then the table's elements
 abbrev pub Only : Case → Type 0
@@ -17,7 +17,7 @@ Each (c ∷ l) = Only c × Each l
 
 each : (l : List Case) → map answered l ≡ map promised l → Each l
 each [] e = tt
-each (c ∷ l) e = (λ number place count table p. Known-only c (ap (λ (x : List (List ℕ)). get_or x 0 []) e) p, each l (ap (drop 1) e))
+each (c ∷ l) e = (λ number place count table p. known_only c (ap (λ (x : List (List ℕ)). get_or x 0 []) e) p, each l (ap (drop 1) e))
 
 pub starred_only : Each known
 starred_only = each known known_results
@@ -32,4 +32,4 @@ unfolding answered
 open_stream_result = refl
 
 pub open_stream_only : Only open_stream
-open_stream_only number place count table p = Known-only open_stream open_stream_result p
+open_stream_only number place count table p = known_only open_stream open_stream_result p

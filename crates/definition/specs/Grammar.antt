@@ -1,5 +1,5 @@
 -- The rules of rune 0.14.2's grammar.rs as tape programs, each named after its Rust function, with the Rust's line.
--- A rule stands above those that use it, since antt has no forward references. The six counted rules are entered by name; the program of each is its `..-text`, as
+-- A rule stands above those that use it, since antt has no forward references. The six counted rules are entered by name; the program of each is its `.._text`, as
 -- `grammar` at the end lists (of stmt with refusal 9 round it, `stmt_once`). Rust order: recover root exprs format stmt is_stmt_recovering item_const inner_attributes attributes modifiers local item_struct item_use
 -- item_enum empty_body struct_body tuple_body item_fn item_impl item_mod is_pat pat is_expr is_expr_with expr expr_with is_range outer_expr_with labels expr_primary
 -- kind_is_callable expr_chain empty_group expr_tuple_or_group expr_object pat_object expr_if expr_while expr_loop expr_for expr_match expr_select condition path

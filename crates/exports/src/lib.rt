@@ -1,4 +1,4 @@
-// Every call for C: what the archive has. Each hands its arguments on, and its answer is three numbers.
+// Every call for C, as a library. (exports_c has the same under their symbols.) Each hands its arguments on, and its answer is three numbers.
 #![tactic(auto)]
 
 ghost use Rattle.std.specs.Prelude.{length};

@@ -1,6 +1,5 @@
 // The rules of grammar.rs that hold expressions, blocks and statements: one cycle of calls, proved equal to the definition together.
-// The toolchain joins the names of a cycle into one file name, which a library holds up to 249 bytes. So a rule is declared under one or two letters, below a comment
-// with the Rust's name and line, and called by its full name, which the list of `use self::` gives it.
+// A rule is declared under one or two letters, below a comment with the Rust's name and line, and called by its full name, which the list of `use self::` gives it.
 #![tactic(auto)]
 
 ghost use Rattle.std.specs.Prelude.{◌≡◌, ◌<◌};

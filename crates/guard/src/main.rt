@@ -53,7 +53,7 @@ fn no_guard<W: Write>(out: &mut W) -> io::Result<()>
 {
     put(
         out,
-        b"no guard: three lines are wanted, its text, its tokens' kinds and their lengths\n"
+        b"no guard: three lines are wanted, its text, its tokens' kinds and their lengths\n",
     )
 }
 
@@ -62,7 +62,7 @@ fn no_list<W: Write>(out: &mut W) -> io::Result<()>
 {
     put(
         out,
-        b"no guard: its tokens' kinds and their lengths are decimal numbers with one space between two\n"
+        b"no guard: its tokens' kinds and their lengths are decimal numbers with one space between two\n",
     )
 }
 
