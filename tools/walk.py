@@ -5,11 +5,11 @@ A rule's code and its program in crates/definition/specs/Grammar.antt take the s
 the program is walked along the places of the code on the way to each goal (`rt check --generated DIR --old-names` lists them), and each step gives one law
 of crates/tape/specs/Steps.antt. docs/CONTRIBUTING.md says how code has to be written for that, and what the words in CRATE's words file mean.
 
-    a call that goes on       both W go REST        a look           look / touch / spot
-    a call that is refused    cut W no              a test of it     ask / ask_glued / ask_second
-    a call that is followed   followed W V          a checkpoint     scoped / unscoped
-    a test of the program     if_yes / if_no        a refusal        refuses
-    the end                   nothing / answered / says / kept
+    a call that goes on       both W REST          a look           look / touch / spot
+    a call that is refused    cut W                a test of it     ask / ask_glued / ask_second / ask_ahead
+    what `?` hands on         thrown W             a checkpoint     scoped / unscoped
+    a test of the program     if_yes / if_no       a refusal        refuses / halt
+    the end                   nothing / ends       a counted rule   entered / entered_as / barred
     a loop                    inv_end (last ..), inv_end (last_cut ..), inv_again
 
 A goal that the check finds by itself gets no answer. The checker judges what is written; a rule that this script cannot walk is proved by hand and named under
@@ -31,10 +31,23 @@ CUTS = 'crates/grammar/specs/Cuts.antt'
 # the crates whose functions a rule may call
 CRATES = ('kinds', 'tape', 'pieces', 'grammar', 'krosstavel')
 UNFOLDABLE = set(re.findall(r'^unfoldable pub (\S+) :', open(GRAMMAR).read(), re.M))
+# the classes of kinds, each with the words of its definition
+CLASSES = {m[1]: set(re.split(r'[\s()]+', m[2]))
+           for m in re.finditer(r'^unfoldable pub (\S+) :(.*?)(?=^\S+ pub |\Z)', open('crates/definition/specs/Classes.antt').read(), re.M | re.S)}
 CUT = set(re.findall(r'^unfoldable pub (\S+) :', open(CUTS).read(), re.M))
 KINDS = {name: int(number) for name, number in re.findall(r'^(\S+) = (\d+)$', open('crates/definition/specs/Kinds.antt').read(), re.M)}
-LOOKS = ('peek', 'glued', 'peek_second')
-WRAPS = {'take_if': 'ends', 'take_while': 'ends'}
+# the modes that a `match` decides: how the code's is read, and the arm where the test holds
+MODES = {'is_ranged': ('range_of', 'Yes'), 'is_binary': ('binary_of', 'Yes'), 'recovers': ('cx_of', 'StmtCx'), 'are_exprs': ('listed_of', 'Exprs')}
+# the code's names of the kinds
+CODES = {name: int(number) for name, number in re.findall(r'^pub const (\w+): u8 = (\d+);', open('crates/kinds/src/lib.rt').read(), re.M)}
+# the code's function that looks the next operator up
+AHEAD = 'lookahead'
+LOOKS = ('peek', 'glued', 'peek_second', 'here')
+# calls whose answer is no step's
+ENTRIES = ('mark', 'enter')
+OTHERS = {'from_residual': 'thrown', 'refusal': 'refusal', 'leave': 'leave'}
+# the programs whose answer is dropped
+WRAPS = ('take_if', 'take_while')
 # the laws of crates/laws/specs/Progress.antt that ask nothing, a class of the next kind, a class of it with the one glued to it; the others ask for a token
 FURTHER_ANY = {'stmt': 'stmt_further', 'expr': 'expr_further', 'expr_with': '(λ i d n s. expr_with_further i d n s _ _ _)'}
 FURTHER_SAW = {'path': 'is_path_component', 'generic_path': 'is_path_component'}
@@ -47,21 +60,21 @@ HEAD = '''-- Written by tools/walk.py from the code and its program; docs/CONTRI
 -- Assumes nothing.
 '''
 # what answers and invariants may cite; a file gets those that it cites
-LAWS = '''use Prim.Native.Nat.{◌+◌, ◌*◌}
-use mathlib.Core.Path.{refl, sym, ap, ◌∙◌}
-use mathlib.Core.Bool.{Bool, true, false}
-use mathlib.Core.Logic.{inl, inr}
-use native.Mathlib.Omega.{arith}
+LAWS = '''use Rattle.std.specs.Prelude.{◌+◌, ◌*◌, Bool, true, false, cond, eqb}
+use Rattle.std.proofs.Math.Path.{refl, sym, ap}
+use Rattle.std.proofs.Common.{◌∙◌, inl, inr, arith}
 use borrow.Author.Tests.{eq-eqb, ne_eqb}
-use Rattle.definition.specs.Classes.{is_path_component, kind_is_pat, is_pat_or_rest, is_use_part, is_select_arm}
-use Rattle.definition.specs.Modes.{Brace, Range}
+use Rattle.definition.specs.Classes.{CLASSES}
+use Rattle.definition.specs.Modes.{Brace, Range, is_ranged, is_binary, recovers, are_exprs}
+use Rattle.kinds.specs.Modes.{range_of, binary_of, cx_of, listed_of}
 use Rattle.definition.specs.Prog.{bump, repeat}
 use Rattle.definition.specs.Grammar.{GRAMMAR}
 use Rattle.laws.specs.Progress.{FURTHER, path_component_some, use_path_some, object_key_some, glues_some, recovering_some}
 use Rattle.kinds.specs.Laws.{not_eof as none_eof, at_eof}
+use Rattle.tape.specs.Numbers.{number_of}
 use Rattle.tape.specs.declared.Tape.{Tape}
-use Rattle.tape.specs.Steps.{Loop, fuel, burns, here_few, marked_now, step_marked, held, held_now, followed, not_key, both, cut, refusal, ends, if_yes, if_no, look, touch, spot, ask, ask_glued, ask_second, ask_second_as, scoped, unscoped, nothing, answered, answered_as, says, kept, refuses, refused_tape, inv_start, inv_again, inv_end, last, last_cut}
-use Rattle.tape.specs.Counted.{deep, entered, entered_bool, barred, goes_on, goes_some, goes_saw, goes_glued, and_on}
+use Rattle.tape.specs.Steps.{Loop, fuel, burns, kept_on, either, marked_now, step_marked, not_key, both, cut, thrown, thrown_ran, ends, if_yes, if_no, look, touch, spot, ask, ask_glued, ask_second, ask_second_as, scoped, unscoped, nothing, nothing_as, halt, refuses, inv_start, inv_again, inv_end, last, last_cut}
+use Rattle.tape.specs.Counted.{entered, entered_as, barred, yes_no, goes_on, goes_some, goes_saw, goes_glued, and_on}
 use Rattle.grammar.specs.Cuts.{CUTS}'''
 
 
@@ -100,27 +113,31 @@ def tuple_of(terms):
 # ## The code's contracts
 
 class Function:
-    """A function's contract: what it asks, the program it runs, its answer, and the mark it closes over; and the tests of its body, in order."""
+    """A function's contract: what it asks, the program it runs, what it answers, and the mark it closes over; and the tests of its body, in order."""
 
-    def __init__(self, crate, module, name, requires, ensures, text):
+    def __init__(self, crate, module, name, parts, text):
         self.crate, self.module, self.name = crate, module, name
+        self.answer, requires, clause, ensures = parts
+        # the clause that names the program, where another stands beside it; and whether the cycle goes through several modules
+        self.clause, self.wide = f'.{clause.strip()}' if clause else '', False
         self.asks = [a.strip() for a in split(requires, '×')] if requires else []
-        m = re.match(r'(Ran|Step (\S+)|Follows (\S+)) (.*)', ensures)
+        m = re.match(r'(Ran|Step (\S+)) (.*)', ensures)
         self.rule = bool(m)
-        # one that follows a call takes a refused tape too, and gives it back
-        self.follows = bool(m and m[3])
-        self.mark = m[2] or m[3] if m else None
+        self.mark = m[2] if m else None
         if m:
-            parts = split(m[4], ' ')
-            self.answer = parts[1]
-            head = split(parts[0][1:-1] if parts[0][0] == '(' else parts[0], ' ')
-            given = {b: a for line in re.findall(r'^ghost use [^;]*;', text, re.M) for a, b in re.findall(r'([^\s{,]+) as (\w+)', line)}
+            program, answer = split(m[3], ' ')[:2]
+            # how the code's answer is read as the definition's
+            self.reads = None if answer == 'result' else answer.strip('()').split()[0]
+            head = split(program[1:-1] if program[0] == '(' else program, ' ')
+            given = {b: a for line in re.findall(r'^\s*ghost use [^;]*;', text, re.M) for a, b in re.findall(r'([^\s{,]+) as (\w+)', line)}
             self.head, self.args = given.get(head[0], head[0]), head[1:]
-        cycle = re.search(r'^#\[cycle\((\w+)\)\]\n(?:pub )?fn ' + name + r'\(', text, re.M)
+        cycle = re.search(r'^#\[cycle\((\w+)\)\]\n(?:pub(?:\(\w+\))? )?fn ' + name + r'\(', text, re.M)
         self.cycle = cycle[1] if cycle else None
-        body = re.search(r'^( *)(?:pub )?fn ' + name + r'\(.*?\n\1\}\n', text, re.M | re.S)
+        body = re.search(r'^( *)(?:pub(?:\(\w+\))? )?fn ' + name + r'\(.*?\n\1\}\n', text, re.M | re.S)
         self.body = re.sub(r'//.*', '', body[0])
-        self.tests = [' '.join(t.split()) for t in re.findall(r'\b(?:if|while) (.*?) \{\n', self.body, re.S)]
+        # the arms of several kinds
+        self.rows = [[CODES[k] for k in r.split(' | ')] for r in re.findall(r'(?m)^ *([A-Z_]+(?: \| [A-Z_]+)+) =>', self.body)]
+        self.tests = [' '.join(t.split()) for t in re.findall(r'\b(?:if|while) (?!let )(.*?) (?:\{\n|=>)', self.body, re.S)]
 
     def ask(self, word):
         """Where a part of what is asked stands: '' for the whole, '.0', '.1' .."""
@@ -131,17 +148,19 @@ class Function:
 
     def unit(self):
         """The module that the function is proved in: its own, or its cycle's."""
-        return '.'.join(([self.module] if self.module else []) + [f'+{self.cycle}' if self.cycle else self.name])
+        return '.'.join(([self.module] if self.module and not (self.cycle and self.wide) else []) + [f'+{self.cycle}' if self.cycle else self.name])
 
 
 def contracts(crate):
     out = {}
     folder = f'crates/{crate}/src'
-    for file in sorted(os.listdir(folder)):
+    for file in sorted(os.path.relpath(os.path.join(at, f), folder) for at, _, names in os.walk(folder) for f in names):
         text = open(f'{folder}/{file}').read()
-        module = '' if file == 'lib.rt' else file[:-3]
-        for m in re.finditer(r'fn (\w+)\([^)]*\)[^{]*?\n(?:\s+requires \{ (.*?) \}\n)?\s+ensures \{ (.*?) \}\n', text):
-            out[m[1]] = Function(crate, module, m[1], m[2], m[3], text)
+        module = '' if file == 'lib.rt' else file[:-3].replace('/', '.')
+        for m in re.finditer(r'fn (\w+)\([^)]*\)(?: -> (?:Result<(.*?), Refusal>|[^{]*?))?\n(?:\s+requires \{ (.*?) \}\n)?\s+ensures (\w* ?)\{ (.*?) \}\n', text):
+            out[m[1]] = Function(crate, module, m[1], m.groups()[1:], text)
+    for f in out.values():
+        f.wide = len({g.module for g in out.values() if g.cycle == f.cycle}) > 1
     return out
 
 
@@ -157,6 +176,8 @@ class Places:
         self.callee = {p[0]: p[3].split('::')[-1] for p in record['places'] if p[3]}
         # today's name of each goal that is asked: its old name, and its place
         self.goals = {new: (re.sub(r'-\d+$', '', old), at[0]) for (old, new), at in zip(record['needs'], record['asked_at'])}
+        # the clauses of those that are asked one by one
+        self.clauses = {new: record['asked'].get(old, []) for old, new in record['needs']}
         self.stem = record['stem']
         self.loop = record['loops'][0][0][1] if record['loops'] else None
         self.fn = fn
@@ -175,21 +196,39 @@ class Places:
 
     def keys(self, place):
         """The keys of all arms of the `match` of which this place is an arm."""
-        arms = [self.step[p][1] for p in self.step if self.before[p] == self.before[place] and self.step[p][0] == 'match']
-        return [int(a[3:]) for a in arms if re.fullmatch(r'in-\d+', a)]
+        arms = [self.step[p][1] for p in self.step if self.before[p] == self.before[place] and self.step[p][0] == self.step[place][0]]
+        return [k for a in arms for k in self.arm(a)]
+
+    def is_option(self, place):
+        """Whether the arm is one of Some and None."""
+        return any(self.step[p][1].startswith('in-Some') for p in self.step if self.before[p] == self.before[place] and self.step[p][0] == self.step[place][0])
+
+    def arm(self, name):
+        """The keys of an arm: the one that it is named after, and those that stand behind it."""
+        key = re.match(r'in-(\d+)', name)
+        row = key and next((r for r in self.fn.rows if r[0] == int(key[1])), None)
+        return row or ([int(key[1])] if key else [])
 
 
 class Element:
-    """A step of the code on the way: a call, a look, a test, a loop, the start."""
+    """A step of the code on the way: a call, one of the two ways on from its `?`, a look, a test, a loop, the start."""
 
     def __init__(self, kind, name, term):
         self.kind, self.name, self.term = kind, name, term
         # of a test: its condition, and whether it holds here
         self.test, self.holds = None, False
-        # of an arm: its key, or the keys of the others
-        self.keys = []
+        # of an arm: its keys, or those of the others; and which of its keys it is, where it has several
+        self.keys, self.one = [], None
+
+    def as_one(self, key, fact):
+        """An arm of several kinds, where it is this one."""
+        e = Element(self.kind, self.name, self.term)
+        e.keys, e.one = [key], fact
+        return e
 
     def fact(self):
+        if self.kind == 'key':
+            return self.one or f'{self.term}.is'
         return f"{self.term}.{'true' if self.holds else 'false'}"
 
 
@@ -200,8 +239,7 @@ class Stuck(Exception):
 class Walk:
     def __init__(self, fn, places, known, defs, words, cycle):
         self.fn, self.places, self.known, self.defs, self.words, self.cycle = fn, places, known, defs, words, cycle
-        self.inside = False
-        self.opened = []
+        self.opened, self.classes = [], set()
         self.coded = {f.head for f in known.values() if f.rule} | {'bump', 'flush', 'close'} | set(WRAPS)
         self.tree = self.inlined(defs[words.get('as', fn.head)][1])
 
@@ -218,33 +256,50 @@ class Walk:
     # ### The steps on the way to a place
 
     def elements(self, place):
-        found = [self.element(p) for p in self.places.way(place)]
-        return [e for e in found if e]
+        found, called = [], None
+        for p in self.places.way(place):
+            e = self.element(p)
+            if not e:
+                continue
+            called = e.name if e.kind == 'call' else called
+            # the two ways on from a `?` are told by the call that it stands behind
+            e.name = called if e.kind in ('ok', 'err') else e.name
+            found.append(e)
+        return found
 
     def element(self, place):
         old, new = self.places.step[place]
         term = f'c.{new}'
         if not old:
             return Element('pre', 'pre', 'c.requires')
-        if re.fullmatch(r'if\d+', old):
+        if re.fullmatch(r'(.*-)?(Then|Else)\d*', place):
             e = Element('if', old, term)
-            e.test, e.holds = self.places.test(place), place.startswith('Then') or '-Then' in place
-            if re.fullmatch(r'\w+\.no != 0', e.test):
-                e.kind = 'no' if e.holds else 'go'
+            e.test, e.holds = self.places.test(place), 'Then' in place.split('-')[-1]
             return e
-        if old == 'match':
-            e = Element('key' if new.startswith('in-') else 'rest', old, term)
-            e.keys = [int(new[3:])] if e.kind == 'key' else self.places.keys(place)
-            return e
+        if place.startswith('At-match'):
+            return self.arm(place, new, term)
         if re.fullmatch(r'loop\d*', old):
             return Element('loop', old, term)
         name = self.places.callee.get(place)
         if name in LOOKS:
             return Element('look', name, term)
-        if name == 'refuse':
-            return Element('refuse', name, term)
+        if name in OTHERS:
+            return Element(OTHERS[name], name, term)
         f = self.known.get(name)
-        return f and Element('call' if f.rule else 'value', name, term)
+        return f and Element('call' if f.rule or name in ENTRIES else 'value', name, term)
+
+    def arm(self, place, new, term):
+        way = re.match(r'in_(ok|err)-', new)
+        if way:
+            return Element(way[1], new, term)
+        if self.places.is_option(place):
+            return Element('some' if new.startswith('in-') else 'none', new, term)
+        mode = re.match(r'in-([A-Z]\w*)', new)
+        if mode:
+            return Element('mode', mode[1], term)
+        e = Element('key' if new.startswith('in-') else 'rest', new, term)
+        e.keys = self.places.arm(new) or self.places.keys(place)
+        return e
 
     # ### What holds at a point of the way
 
@@ -254,25 +309,13 @@ class Walk:
             raise Stuck(f'nothing asked of {word}')
         return e.term + part
 
-    def did(self, e, mark):
+    def did(self, e, mark='_'):
         """What a call did: its step, under any mark where it closes over none."""
-        return f'{e.term}.ensures' + ('' if self.known[e.name].mark else f'.under {mark}')
-
-    def ready(self, els):
-        """The tape is ready for the next call."""
-        go = None
-        for e in reversed(els):
-            if e.kind == 'go':
-                go = e
-            if e.kind == 'call':
-                if go is None:
-                    raise Stuck(f'no test after {e.name}')
-                return law(of(self.did(e, '0'), 'ready'), go.fact())
-            if e.kind == 'loop':
-                return of(self.inv(e), 'ready')
-            if e.kind == 'pre':
-                return self.pre(e, 'Ready')
-        raise Stuck('no start')
+        if e.name == 'mark':
+            return f'{e.term}.ensures.ran.under {mark}'
+        done = f'{e.term}.ensures{self.known[e.name].clause}' + ('' if self.known[e.name].mark else f'.under {mark}')
+        wrap = self.words.get('wrap', {}).get(e.name, '{}')
+        return wrap.replace('{}', arg(done)) if wrap != '{}' else done
 
     def inv(self, e):
         return f"{e.term}.invariant{'.loop' if 'next' in self.words else ''}"
@@ -281,36 +324,27 @@ class Walk:
         """Where a loop stands, under a mark: any, or the one that its turns close over."""
         return of(self.inv(e), 'at') if self.words.get('at') else f'{self.inv(e)}.under {mark}'
 
-    def standing(self, ready, inv):
-        return f'record {{ ready = {ready}; at = {inv} }}' if self.words.get('at') else f'record {{ ready = {ready}; under = λ m. {inv} }}'
+    def standing(self, inv):
+        return f'record {{ at = {inv} }}' if self.words.get('at') else f'record {{ under = λ m. {inv} }}'
 
     def marked(self, els):
         """The mark of the scope that the way is in, or of the caller, is one."""
-        start, term = 0, None
+        start, term = 1, None
         if self.tree[0] == 'scope':
-            for n, e in enumerate(els):
-                if e.kind == 'call' and e.name == 'mark':
-                    start, term = n + 1, 'marked_now'
-                    break
-            start += 1
+            start = 1 + next(n for n, e in enumerate(els) if e.kind == 'ok' and e.name == 'mark')
+            term = law('marked_now', f'{els[start - 1].term}.ensures')
         else:
             term = self.pre(els[0], 'Marked')
-            start = 1
-        for n in range(start, len(els)):
-            e = els[n]
-            if e.kind == 'call':
-                term = law('step_marked', self.step_of(e), els[n + 1].fact(), term)
+        for e in els[start:]:
+            if e.kind == 'ok':
+                term = law('step_marked', self.did(e), term)
             if e.kind == 'loop':
                 term = law(of(self.under(e, '_'), 'marked'), term)
         return term
 
-    def step_of(self, e, mark='_'):
-        wrap = self.words.get('wrap', {}).get(e.name, '{}')
-        return wrap.replace('{}', arg(self.did(e, mark)) if wrap != '{}' else self.did(e, mark))
-
-    def lefts(self, els):
-        """That as many entries are left as at the start, of each call on the way."""
-        return [of(self.did(e, '0'), 'left') for e in els if e.kind == 'call'] + [of(self.under(e, '0'), 'left') for e in els if e.kind == 'loop']
+    def kept(self, els):
+        """That the lists and the entries left are kept, of each step on the way that goes on."""
+        return [of(self.did(e, '0'), 'kept') for e in els if e.kind == 'ok' and e.name != 'enter'] + [of(self.under(e, '0'), 'kept') for e in els if e.kind == 'loop']
 
     # ### The walk: a term for Step _ P _ .., from element i on; and where it ends
 
@@ -333,15 +367,6 @@ class Walk:
             raise Stuck(f'{kinds} expected at the end')
         return i
 
-    def call(self, p, els, i):
-        """A call's own step."""
-        i = self.skip(els, i, ('call',))
-        if self.known[els[i].name].follows:
-            return law(f'{els[i].term}.ensures.on', of(self.ready(els[:i]), 'going')), i + 1
-        term = self.step_of(els[i])
-        wrap = WRAPS.get(p[1])
-        return (law(wrap, term) if wrap else term), i + 1
-
     def walk(self, p, els, i, top=False):
         """Returns the term, the next element, and how the way ended: 'end', 'no' (refused), or 'inl' / 'inr' of a turn."""
         kind = p[0]
@@ -350,17 +375,9 @@ class Walk:
         if kind == 'seq':
             return self.sequence(p, els, i)
         if kind == 'call':
-            term, j = self.call(p, els, i)
-            if j < len(els) and els[j].kind == 'no':
-                return law('refusal', term, els[j].fact()), j + 1, 'no'
-            return term, j, 'end'
-        if kind == 'test' and i < len(els) and els[i].kind in ('key', 'rest'):
-            return self.matched(p, els, i)
+            return self.call(p, els, i)
         if kind == 'test':
-            j = self.skip(els, i, ('if',))
-            name, fact = self.test(els, j)
-            term, k, how = self.walk(p[2] if name == 'if_yes' else p[3], els, j + 1)
-            return law(name, fact, term), k, how
+            return self.choice(p, els, i)
         if kind == 'scope':
             return self.scope(p, els, i, top)
         if kind == 'stop':
@@ -369,54 +386,93 @@ class Walk:
             return self.loop(p, els, i)
         raise Stuck(f'cannot walk {p}')
 
-    def matched(self, p, els, i):
-        """A test of the ladder that a `match` decides."""
-        e = els[i]
-        m = re.fullmatch(r'eqb k (K-\S+)', p[1])
-        kind = KINDS[m[1]] if m else None
-        if e.kind == 'rest' and kind in e.keys:
+    def choice(self, p, els, i):
+        """A test of the program, by what decided it in the code: a `match`'s last arm, another of its arms, or a test."""
+        if self.ruled_out(p, els, i):
             term, j, how = self.walk(p[3], els, i)
-            return law('if_no', 'ne_eqb _ _ (omega arith)', term), j, how
-        if e.kind == 'rest':
-            return self.walk(p, els, i + 1)
-        if kind is None:
-            raise Stuck(f'a match cannot decide {p[1]}')
+            return law('if_no', f"ne_eqb _ _ ({'grind' if self.fn.rows else 'omega'} arith)", term), j, how
+        arms = {'key': self.matched, 'some': self.found, 'none': self.found, 'mode': self.decided}
+        if i < len(els) and els[i].kind in arms:
+            return arms[els[i].kind](p, els, i)
+        j = self.skip(els, i, ('if',))
+        name, fact = self.test(els, j)
+        term, k, how = self.walk(p[2] if name == 'if_yes' else p[3], els, j + 1)
+        return law(name, fact, term), k, how
+
+    def call(self, p, els, i):
+        """A call's own step: on one of the two ways on from its `?`, or handed on as it is."""
+        i = self.skip(els, i, ('call',))
+        if p[1] == 'finish' and els[i].name == 'close_at':
+            return self.walk(self.inlined(self.defs['finish'][1]), els, i)
+        way = els[i + 1] if i + 1 < len(els) and els[i + 1].kind in ('ok', 'err') else None
+        term, no = self.did(way or els[i]), bool(way and way.kind == 'err')
+        if p[1] in WRAPS:
+            term = law('cut' if no else 'ends', term)
+        return term, i + 2 if way else i + 1, 'no' if no else 'end'
+
+    def ruled_out(self, p, els, i):
+        """Whether a test is for a kind that a `match` whose last arm the way has come through had an arm for."""
+        while i < len(els) and els[i].kind in ('value', 'rest'):
+            i += 1
+        behind = []
+        for e in reversed(els[:i]):
+            if e.kind not in ('value', 'rest', 'if'):
+                break
+            behind += e.keys if e.kind == 'rest' else []
+        return self.kind_of(p) in behind
+
+    def kind_of(self, p):
+        """The kind that a test of the program is for, if it is for one."""
+        m = re.fullmatch(r'eqb \w+ (K-\S+)', p[1])
+        return KINDS[m[1]] if m else None
+
+    def matched(self, p, els, i):
+        """A test of the ladder that an arm of a `match` decides."""
+        e, kind = els[i], self.kind_of(p)
         if e.keys == [kind]:
             term, j, how = self.walk(p[2], els, i + 1)
-            return law('if_yes', f'eq-eqb _ _ {e.term}.is', term), j, how
+            return law('if_yes', f'eq-eqb _ _ {e.fact()}', term), j, how
+        # another kind, or a class that the kind is not of: both compute
+        other = f'not_key {kind} {e.fact()} refl' if kind is not None else f'ap {self.classed(p[1])} {e.fact()}'
         term, j, how = self.walk(p[3], els, i)
-        return law('if_no', f'not_key {kind} {e.term}.is refl', term), j, how
+        return law('if_no', other, term), j, how
+
+    def found(self, p, els, i):
+        """A test of a link or an operator that an arm of its Option decides."""
+        e, word = els[i], 'op' if p[1].startswith('is_none') else 'link'
+        term, j, how = self.walk(p[3 if e.kind == 'some' else 2], els, i + 1)
+        if e.kind == 'none':
+            return law('if_yes', law(f'no_{word}', f'{e.term}.is'), term), j, how
+        links = [f'{els[i - 1].term}.ensures.some'] if word == 'link' else []
+        return law('if_no', law(f'{word}_is', f'{e.term}.is', *links), f'rw {e.term}.is {arg(term)}'), j, how
+
+    def decided(self, p, els, i):
+        """A test of a mode that an arm decides: it computes."""
+        head = p[1].split()[0]
+        if head not in MODES:
+            raise Stuck(f'a mode cannot decide {p[1]}')
+        read, yes = MODES[head]
+        self.classes.add(head)
+        term, j, how = self.walk(p[2] if els[i].name == yes else p[3], els, i + 1)
+        return law('if_yes' if els[i].name == yes else 'if_no', f'ap {head} (ap {read} {els[i].term}.is)', term), j, how
+
+    def classed(self, cond):
+        """A class, as a function of the kind `k`; it is opened, so that the checker computes it."""
+        head, *rest = cond.split()
+        more = {head}
+        while more:
+            self.classes |= more
+            more = {n for c in more for n in CLASSES[c] if n in CLASSES} - self.classes
+        return head if rest == ['k'] else f"(λ (k : ℕ). {' '.join([head] + [r if r == 'k' else '_' for r in rest])})"
 
     def ending(self, p, els, i):
         how = 'inl' if p[1].startswith('(inl') else 'inr' if p[1].startswith('(inr') else 'end'
-        answers = how == 'end' and self.fn.answer != 'tt' and not self.inside
-        # another form of the answer, as the words give it
-        for word, end in (('last', 'inr'), ('again', 'inl')):
-            if how == end and word in self.words:
-                fact = self.words[word].replace('{read}', self.next_op(els).replace('looked', 'read_as', 1))
-                while i < len(els) and els[i].kind in ('value', 'look'):
-                    i += 1
-                return law('kept', fact, self.ready(els[:i])), i, how
-        # yes or no, put down by `say`
-        if (answers or how == 'inr' and not self.inside) and i < len(els) and els[-1].name == 'say' and all(e.kind == 'value' for e in els[i:]):
-            return law('says', f"λ x. {'inr x' if how == 'inr' else 'x'}", f'{els[-1].term}.ensures', self.ready(els)), len(els), how
+        fact = self.words.get({'inr': 'last', 'inl': 'again'}.get(how)) or self.words.get('kept', {}).get(self.goal)
         # what else the code computed on the way here does not matter
-        while i < len(els) and els[i].kind in ('value', 'rest') and els[i].name != 'say':
+        while i < len(els) and els[i].kind in ('value', 'rest', 'look'):
             i += 1
-        return self.answering(els, i, how, answers)
-
-    def answering(self, els, i, how, answers):
-        """The last step of a way: an answer that the tape has, or none."""
-        ready = self.ready(els[:i])
-        tested = i < len(els) and els[i].kind == 'if'
-        # a yes or no that the code tests, to put it down
-        if how == 'inr' and self.fn.answer != 'tt' and self.tree[0] == 'loop' and tested:
-            return law('answered_as', f'ap (λ (x : Bool). inr x) {els[i].fact()}', ready), i + 1, how
-        if answers and self.goal in self.words.get('kept', {}):
-            return law('kept', self.words['kept'][self.goal], ready), i, how
-        if answers and tested:
-            return law('answered_as', els[i].fact(), ready), i + 1, how
-        return law('answered' if answers else 'nothing', ready), i, how
+        # another form of the answer, as the words give it
+        return law('nothing_as', fact) if fact else 'nothing', i, how
 
     def sequence(self, p, els, i):
         _, binder, first, rest = p
@@ -424,50 +480,21 @@ class Walk:
             return self.look(first, rest, els, i)
         if first[0] == 'ask':
             return self.ask(first, rest, els, i)
-        term, j, how = self.first(first, els, i)
+        term, j, how = self.walk(first, els, i)
         if how == 'no':
-            none = f" {{a = {self.words.get('none', 'tt')}}}" if first[0] in ('while', 'loop') else ''
-            return law(f'cut{none}', *term), j, 'no'
-        if j < len(els) and els[j].kind == 'go':
-            more, k, how = self.walk(rest, els, j + 1)
-            return law('both', term, els[j].fact(), more), k, how
-        if j < len(els) and els[j].kind == 'call' and self.known[els[j].name].follows:
-            return law('followed', term, f'{els[j].term}.ensures'), j + 1, 'end'
-        if first[0] in ('while', 'loop', 'test'):
-            more, k, how = self.walk(rest, els, j)
-            return law('both', term, of(self.ready(els[:j]), 'going'), more), k, how
-        if rest[0] == 'ret' and j >= len(els):
-            return law('ends', term), j, 'end'
-        raise Stuck(f'no test after {first}')
-
-    def first(self, p, els, i):
-        """The first part of a sequence: its step, or that step and the refusal's test."""
-        if p[0] == 'call':
-            term, j = self.call(p, els, i)
-            if j < len(els) and els[j].kind == 'no':
-                return (term, els[j].fact()), j + 1, 'no'
-            return term, j, 'end'
-        self.inside, before = p[0] == 'test', self.inside
-        term, j, how = self.walk(p, els, i)
-        self.inside = before
-        if how == 'no':
-            return (term, self.refused(els)), j, 'no'
-        return term, j, 'end'
-
-    def refused(self, els):
-        """That the last step was refused."""
-        e = els[-1]
-        return e.fact() if e.kind == 'no' else law('refused_tape', f'{e.term}.ensures', 'λ z. omega arith')
+            return law('cut', term), j, 'no'
+        more, k, how = self.walk(rest, els, j)
+        return law('ends', term) if more == 'nothing' and how == 'end' else law('both', term, more), k, how
 
     def look(self, p, rest, els, i):
-        if p[1] == 'here':
-            term, j, how = self.walk(rest, els, i)
-            return law('spot', of(self.ready(els[:i]), 'looks.next'), term), j, how
         i = self.skip(els, i, ('look',))
         term, j, how = self.walk(rest, els, i + 1)
-        return law({'nth0': 'look', 'glued': 'touch'}[p[1]], f'{els[i].term}.ensures', term), j, how
+        return law({'nth0': 'look', 'glued': 'touch', 'here': 'spot'}[p[1]], f'{els[i].term}.ensures', term), j, how
 
     def ask(self, p, rest, els, i):
+        if p[1] == 2 and els[i].name == AHEAD:
+            term, j, how = self.walk(rest, els, i + 1)
+            return law('ask_ahead', f'{els[i].term}.ensures', term), j, how
         i = self.skip(els, i, ('look',))
         seen = [f'{els[i].term}.ensures']
         if p[1] == 1:
@@ -483,20 +510,23 @@ class Walk:
 
     def scope(self, p, els, i, top):
         i = self.skip(els, i, ('call',))
-        mark, test = f'{els[i].term}.ensures', els[i + 1]
-        if test.kind == 'no':
-            term, j, how = law('unscoped', mark, test.fact()), i + 2, 'no'
+        way = els[i + 1]
+        if way.kind == 'err':
+            term, j, how = law('unscoped', f'{way.term}.ensures'), i + 2, 'no'
         else:
             term, j, how = self.walk(p[2], els, i + 2)
-            term = law('scoped', mark, test.fact(), term)
+            term = law('scoped', f'{way.term}.ensures', term)
         return (term if top else f"{of(term, 'under')} _"), j, how
 
     def stop(self, p, els, i):
-        i = self.skip(els, i, ('refuse',))
-        term = law('refuses', f'{els[i].term}.ensures', 'λ z. omega arith')
         if p[2] is None:
-            term = law('spot', of(self.ready(els[:i]), 'looks.next'), term)
-        return term, i + 1, 'no'
+            i = self.skip(els, i, ('refusal',))
+            return law('refuses', f'{els[i].term}.ensures', 'refl'), i + 1, 'no'
+        # at a place that was seen before: here, or where the code has kept it
+        if i < len(els) and els[i].kind == 'refusal':
+            here, refusal = next(e for e in reversed(els) if e.name == 'here'), f'{els[i].term}.ensures'
+            return law('halt', f'ap number_of {refusal}.reason', f'{refusal}.place ∙ sym {here.term}.ensures'), i + 1, 'no'
+        return law('halt', 'refl', 'refl'), i, 'no'
 
     def turn(self, p):
         if p[0] == 'while':
@@ -508,95 +538,106 @@ class Walk:
         inv = self.under(els[i], '_')
         term, j, how = self.walk(self.turn(p), els, i + 1)
         if how == 'no':
-            return law('inv_end', inv, law('last_cut', term, self.refused(els))), j, 'no'
+            return law('inv_end', inv, law('last_cut', term)), j, 'no'
         if how == 'inr':
-            return law('inv_end', inv, law('last', term, self.going(els[:j]))), j, 'end'
+            return law('inv_end', inv, law('last', term)), j, 'end'
         raise Stuck(f'a turn that ends in {how}')
-
-    def going(self, els):
-        """That the tape goes on, where `say` may have put an answer down."""
-        going = of(self.ready(els), 'going')
-        return f'ap (λ (x : Tape). x.no) {els[-1].term}.ensures ∙ {going}' if els[-1].name == 'say' else going
 
     # ### The goals
 
     def requires(self, name, els):
+        """What a callee asks, where the check does not find it: a mark, an operator, and in a cycle that the measure falls."""
         f = self.known.get(name)
-        if name in LOOKS:
-            return of(self.ready(els), 'looks')
-        if name == 'refuse':
-            return law('here_few', self.ready(els))
-        if not f or not f.rule:
+        if not f:
             return None
         parts = [self.asked(a, els) for a in f.asks]
         if name in self.cycle:
-            facts = ['arith', 'c.decreases'] + [e.fact() for e in els if e.kind == 'if' and self.counted()] + self.lefts(els)
-            parts = [law('omega', tuple_of(facts)), tuple_of(parts)]
-        return tuple_of(parts)
+            facts = ['arith', 'c.decreases'] + [f'{e.term}.ensures.some.1' for e in els if e.kind == 'ok' and e.name == 'enter']
+            parts = [law('omega', tuple_of(facts + [of(k, 'left') for k in self.kept(els)])), tuple_of(parts or ['tt'])]
+        return tuple_of(parts) if any(p != 'omega arith' for p in parts) else None
 
     def asked(self, a, els):
         """One part of what a callee asks."""
-        if a.startswith('Ready'):
-            return law('deep', self.ready(els)) if self.counted() else self.ready(els)
         if a.startswith('Marked'):
             return self.marked(els)
-        if a.startswith('Held') and els[-1].kind == 'call':
-            return law('held', self.step_of(els[-1]), self.marked(els[:-1]))
-        if a.startswith('Held'):
-            return law('held_now', self.ready(els), self.marked(els))
-        if a.startswith('(Next') and self.counted():
-            given = self.pre(els[0], 'Next')
-            return f'record {{ is = {given}.is; small = {given}.small }}'
-        if a.startswith('(Next'):
-            return self.pre(els[0], 'Next') if self.fn.ask('Next') and not self.find_loop(self.tree) else self.current_next(els)
-        if a.startswith('(Small'):
-            return self.pre(els[0], 'Small') if self.fn.ask('Small') else f"record {{ small = {of(self.current_next(els), 'small')} }}"
+        if a.startswith('Next'):
+            return self.next_op(els)
         return 'omega arith'
 
     def answer(self, goal):
         """A goal's answer, or None where the check finds it."""
-        self.goal = goal
+        self.goal, self.classes = goal, set()
         old, place = self.places.goals[goal]
-        els = self.elements(place)
         if goal in self.words.get('needs', {}):
             return self.words['needs'][goal]
+        return self.each(self.elements(place), lambda els: self.answer_at(old, els))
+
+    def each(self, els, answer):
+        """An answer behind an arm of several kinds: one for each of them."""
+        n = next((n for n, e in enumerate(els) if e.kind == 'key' and len(e.keys) > 1), None)
+        if n is None:
+            return answer(els)
+        name = f'e{n}'
+        ways = [self.each(els[:n] + [els[n].as_one(key, name)] + els[n + 1:], answer) for key in els[n].keys]
+        if ways[0] is None or name not in ways[0]:
+            return ways[0]
+        term = ways[-1]
+        for k in range(len(ways) - 2, -1, -1):
+            term = law('either', els[n].fact() if k == 0 else name, f'λ {name}. {ways[k]}', f'λ {name}. {term}')
+        return term
+
+    def answer_at(self, old, els):
         if old.endswith('-requires'):
             return self.requires(old[:-9], els)
-        if old == 'returns' and self.counted():
-            return self.entry(els)
         if old == 'returns':
-            term, j, how = self.walk(self.tree, els, 1, True)
-            return term if self.tree[0] == 'scope' or self.fn.mark else f'record {{ under = λ m. {term} }}'
+            return self.returns(els)
         if old == 'loop-init':
-            return self.with_next(self.standing(self.ready(els), 'inv_start'), els)
+            return self.with_next(self.standing('inv_start'), els)
         if old == 'loop-smaller':
-            return law('burns', self.ready(els), self.words.get('move') or self.move(els))
+            return law('burns', self.turn_kept(els), self.words.get('move') or self.move(els))
         if old == 'loop-preserved':
             return self.again(els)
         return None
 
+    def returns(self, els):
+        """The contract on one way out. A refusal that `?` hands on is its callee's."""
+        scoped = self.tree[0] == 'scope'
+        term = self.entry(els) if self.counted() else self.walk(self.tree, els, 1, True)[0]
+        if els[-1].kind == 'thrown' and self.fn.reads:
+            term, scoped = law('thrown_as', self.fn.reads, f'{els[-1].term}.ensures', f"{of(term, 'under')} m" if scoped else term), False
+        elif els[-1].kind == 'thrown':
+            term = law('thrown_ran' if scoped else 'thrown', f'{els[-1].term}.ensures', term)
+        return term if scoped or self.fn.mark else f'record {{ under = λ m. {term} }}'
+
+    def turn_kept(self, els):
+        """What the turn keeps from the loop's start on."""
+        steps = self.kept([e for e in els[self.last_loop(els) + 1:] if e.kind == 'ok'])
+        term = steps[-1]
+        for s in steps[-2::-1]:
+            term = law('kept_on', s, term)
+        return term
+
     def again(self, els):
         n = self.last_loop(els)
-        go = [e for e in els if e.kind == 'go'][-1]
         term, j, how = self.walk(self.turn(self.find_loop(self.tree)), els, n + 1)
-        again = law('inv_again', self.under(els[n], 'm'), term, go.fact(), self.words.get('move') or self.move(els))
-        return self.with_next(self.standing(self.ready(els), again), els)
+        again = law('inv_again', self.under(els[n], 'm'), term, self.words.get('move') or self.move(els))
+        return self.with_next(self.standing(again), els)
 
     def with_next(self, loop_term, els):
         """A loop over operators keeps that its operator is the next."""
         return f'record {{ loop = {loop_term}; next = {self.next_op(els)} }}' if 'next' in self.words else loop_term
 
-    def current_next(self, els):
-        loops = [e for e in els if e.kind == 'loop']
-        return f'{loops[-1].term}.invariant.next' if loops else self.next_op(els)
-
     def next_op(self, els):
-        looked = [n for n, e in enumerate(els) if e.name == 'from_slice']
-        if looked:
-            looks = [e for e in els[:looked[-1]] if e.kind == 'look'][-2:]
-            return law('looked', *(f'{e.term}.ensures' for e in [els[looked[-1]]] + looks))
-        loops = [e for e in els if e.kind == 'loop']
-        return f'{loops[-1].term}.invariant.next' if loops else self.pre(els[0], 'Next')
+        """That an operator is the next: it was looked up, a loop keeps it, or it is asked."""
+        e = next(e for e in reversed(els) if e.name == AHEAD or e.kind in ('loop', 'pre') or (e.kind, e.name) == ('ok', 'operand'))
+        if e.kind == 'ok':
+            return f'{e.term}.ensures.next.is'
+        if e.kind == 'pre':
+            asked = self.pre(e, 'Next')
+            return law('next_in', f"{next(e for e in els if e.kind == 'ok').term}.ensures", asked) if self.counted() else asked
+        found = f"{e.term}.{'invariant.next' if e.kind == 'loop' else 'ensures'}"
+        some = [x for x in els[els.index(e):] if x.kind == 'some']
+        return law(f'rw (← {some[-1].term}.is)', found) if some and e.kind == 'loop' else found
 
     def find_loop(self, p):
         if p[0] in ('while', 'loop'):
@@ -612,62 +653,62 @@ class Walk:
         loop = self.find_loop(self.tree)
         more = [] if not loop else ['while_turn'] if loop[0] == 'while' else [loop[1]]
         names = [self.fn.head] + more + self.opened + (['grammar'] if self.counted() else []) + self.words.get('cuts', [])
-        return [n for n in dict.fromkeys(names) if n in UNFOLDABLE | CUT]
+        return [n for n in dict.fromkeys(names) if n in UNFOLDABLE | CUT] + sorted(self.classes)
 
     def invariant(self):
         if 'inv' in self.words:
             return self.words['inv']
         if not self.fn.args and (self.tree[0] == 'while' or self.tree[0] == 'loop' and self.tree[3] == 'tt'):
-            return f'Loop {self.fn.head} {self.fn.head} l.initial.t l.t l.kinds l.lens l.initial.table l.table'
+            return f'Loop {self.fn.head} {self.fn.head} l.initial.p l.p'
         raise Stuck(f'{self.fn.name}: its loop wants the word `inv`')
 
-    # ### A counted rule: its depth is tested, and its body has one entry less
+    # ### A counted rule: its body has one entry less, which is given back
 
     def counted(self):
         first = self.tree[2] if self.tree[0] == 'seq' else self.tree
         return first[0] == 'call' and first[1] == 'enter'
 
     def entry(self, els):
-        test = next(e for e in els if e.kind == 'if')
-        if els[-1].kind == 'refuse':
-            term = law('barred', self.pre(els[0], 'Ready'), test.fact(), f'{els[-1].term}.ensures')
-            term = term if self.tree[0] == 'call' else law('cut {a = 0}', term, self.refused(els)) if self.tree[1] else law('ends {a = 0}', term)
-        else:
-            term = next(e for e in els if e.kind == 'call').term + '.ensures.under _'
-            term = law('entered', test.fact(), term) if self.tree[0] == 'call' else law('entered_bool refl', test.fact(), term) if self.tree[1] \
-                else law('ends', law('entered', test.fact(), law('ends', term)))
-        return f'record {{ under = λ m. {term} }}'
+        way = next(e for e in els if e.kind in ('ok', 'err'))
+        if way.kind == 'err':
+            term = law('barred', f'{way.term}.ensures')
+            return term if self.tree[0] == 'call' else law('cut', term)
+        body = next(e for e in els if e.kind == 'call' and e.name != 'enter')
+        left = next(e for e in els if e.kind == 'leave')
+        read = {'()': ['λ a. 0', 'λ n. tt', 'λ a. refl', 'refl'], 'bool': ['λ b. cond b 1 0', 'λ n. eqb n 1', 'yes_no', 'refl']}[self.fn.answer] if self.tree[0] == 'seq' else []
+        return law('entered_as' if read else 'entered', *read, f'{way.term}.ensures', self.did(body), f'{left.term}.ensures')
 
     # ### Progress: the first call of a turn comes further, since of what was seen
 
     def move(self, els):
         turn = els[self.last_loop(els) + 1:]
-        calls = [k for k, e in enumerate(turn) if e.kind == 'call']
-        first, go = turn[calls[0]], turn[calls[0] + 1]
-        head = self.known[first.name].head
-        looks = [e for e in turn[:calls[0]] if e.kind == 'look']
-        tests = [e for e in turn[:calls[0]] if e.kind == 'if']
-        step = (self.did(first, '0'), go.fact())
+        steps = [k for k, e in enumerate(turn) if e.kind == 'ok']
+        first = turn[steps[0]]
+        head, step = self.known[first.name].head, self.did(first, '0')
+        looks = [e for e in turn[:steps[0]] if e.kind == 'look']
+        tests = [e for e in turn[:steps[0]] if e.kind in ('if', 'key')]
         if head in FURTHER_ANY:
-            term = law('goes_on', *step, FURTHER_ANY[head])
+            term = law('goes_on', step, FURTHER_ANY[head])
         else:
             term = law(*self.because(head, step, looks, tests[-1], turn), f'{head}_further')
-        for k in calls[1:]:
-            term = law('and_on', term, self.step_of(turn[k], '0'), turn[k + 1].fact())
+        for k in steps[1:]:
+            term = law('and_on', term, self.did(turn[k], '0'))
         return term
 
     def because(self, head, step, looks, test, turn):
         """What was seen, as the law of progress asks for it."""
         saw = f'{looks[0].term}.ensures'
+        if test.kind == 'key':
+            return 'goes_some', step, saw, f'λ z. omega (arith, {test.fact()})'
         if ' == ' in test.test:
-            return 'goes_some', *step, saw, f'λ z. omega (arith, {test.fact()})'
+            return 'goes_some', step, saw, f'λ z. omega (arith, {test.fact()})'
         value = turn[turn.index(test) - 1]
         fact = f'sym {value.term}.ensures ∙ {test.fact()}'
         if head in FURTHER_SAW:
-            return 'goes_saw', *step, saw, FURTHER_SAW[head], fact
+            return 'goes_saw', step, saw, FURTHER_SAW[head], fact
         if head in FURTHER_GLUED:
-            return 'goes_glued', *step, saw, f'{looks[1].term}.ensures', FURTHER_GLUED[head], fact
-        return 'goes_some', *step, saw, law(SOME[value.name], fact)
+            return 'goes_glued', step, saw, f'{looks[1].term}.ensures', FURTHER_GLUED[head], fact
+        return 'goes_some', step, saw, law(SOME[value.name], fact)
 
     def last_loop(self, els):
         return max([k for k, e in enumerate(els) if e.kind == 'loop'], default=len(els) - 1)
@@ -677,7 +718,6 @@ class Walk:
 
 def answers(walk):
     """Each goal's answer, with an `unfolding` line where the program is to be seen."""
-    unfolds = f"unfolding {' '.join(walk.unfolds())}\n" if walk.unfolds() else ''
     out = {}
     for goal, (old, _) in walk.places.goals.items():
         try:
@@ -686,8 +726,9 @@ def answers(walk):
             print(f'{walk.fn.name} {goal}: {e}')
             continue
         if term:
-            name, given = walk.places.stem + goal, 't c' if walk.cycle else 'c'
-            unfold = unfolds if old in ('returns', 'loop-init', 'loop-preserved') else ''
+            clause = f'-clause-{walk.fn.clause[1:]}' if walk.fn.clause and old == 'returns' else ''
+            name, given = walk.places.stem + goal + clause, 't c' if walk.cycle else 'c'
+            unfold = f"unfolding {' '.join(walk.unfolds())}\n" if old in ('returns', 'loop-init', 'loop-preserved') and walk.unfolds() else ''
             out[name] = f'pub {name} : goal.{name}\n{unfold}{name} {given} =\n    {term}\n'
     return out
 
@@ -709,24 +750,22 @@ def invariants(walk):
         return {}
     name = walk.places.stem + walk.places.loop
     return {f'{word}-{name}': f'abbrev pub {word}-{name} : goal.{word}-{name}\n{word}-{name} l =\n    {term}\n'
-            for word, term in (('invariant', walk.invariant()), ('decreases', 'fuel l.t l.kinds'))}
+            for word, term in (('invariant', walk.invariant()), ('decreases', 'fuel l.p'))}
 
 
-def measures(fns):
+def measures(fns, record):
     """The number that falls at each call of a member: N for each entry that is left, and the member's rank."""
     rank = ranks(fns)
     top = max(rank.values()) + 1
-    return {f'decreases-{f}': f'abbrev pub decreases-{f} : goal.decreases-{f}\ndecreases-{f} l = {top} * l.tape.left + {rank[f]}\n' for f in rank}
+    name = {f: f"decreases-{record[f]['stem'][:-1]}" for f in rank}
+    return {name[f]: f'abbrev pub {name[f]} : goal.{name[f]}\n{name[f]} l = {top} * l.p.now.left + {rank[f]}\n' for f in rank}
 
 
 def ranks(fns):
     """Above all members that it calls with as many entries left. A counted rule calls its body with one less."""
-    calls, rank = {}, {}
+    names, calls, rank = {f.name for f in fns}, {}, {}
     for f in fns:
-        text = open(f"crates/{f.crate}/src/{f.module or 'lib'}.rt").read()
-        full = {b: a for group in re.findall(r'^(?:pub )?use self::\{?([^;]*);', text, re.M) for a, b in re.findall(r'(\w+) as (\w+)', group)}
-        called = {full.get(n, n) for n in re.findall(r'\b(\w+)\(', f.body)} - {f.name}
-        calls[f.name] = set() if 'tape.left' in f.body else called & {g.name for g in fns}
+        calls[f.name] = set() if '.enter()' in f.body else set(re.findall(r'\b(\w+)\(', f.body)) & names - {f.name}
 
     def rank_of(name):
         if name not in rank:
@@ -738,7 +777,7 @@ def ranks(fns):
 def imports(text, words, uses):
     """The imports that a text cites: of a name, the words' own before a law's, and that before the one that the file had."""
     cited = {t.split('.')[0] for t in re.split(r'[\s(){},;]+', text)} - {''}
-    lines = LAWS.replace('GRAMMAR', ', '.join(sorted(UNFOLDABLE | {'while', 'not_eof'}))).replace('CUTS', ', '.join(sorted(CUT)))
+    lines = LAWS.replace('CLASSES', ', '.join(sorted(CLASSES))).replace('GRAMMAR', ', '.join(sorted(UNFOLDABLE | {'while', 'not_eof'}))).replace('CUTS', ', '.join(sorted(CUT)))
     lines = lines.replace('FURTHER', ', '.join(sorted(n for n in cited if n.endswith('_further'))))
     out = ''
     for line in words + lines.split('\n') + uses:
@@ -773,20 +812,24 @@ def prove(fns, record, known, defs, words):
     """Writes the files of a function, or of a cycle's members."""
     folder = f"crates/{fns[0].crate}/proofs/{fns[0].unit().replace('.', '/')}"
     cycle = {f.name for f in fns} if fns[0].cycle else set()
-    found, loops, goals, more = {}, measures(fns) if cycle else {}, [], []
+    found, loops, goals, more = {}, measures(fns, record) if cycle else {}, [], []
+    kept = []
     for f in fns:
         w, places = words.get(f.name, {}), Places(record[f.name], f)
-        goals += [places.stem + g for g in places.goals]
+        goals += [places.stem + name for g in places.goals for name in [g] + [f'{g}-clause-{c}' for c in places.clauses.get(g, [])]]
         more += w.get('use', [])
         if w.get('by-words'):
             found.update(by_words(places, w))
+            continue
+        if w.get('by-hand'):
+            kept += [f'{word}-{places.stem}{places.loop}' for word in ('invariant', 'decreases') if places.loop]
             continue
         walk = Walk(f, places, known, defs, w, cycle)
         found.update(answers(walk))
         loops.update(invariants(walk))
     write(f'{folder}/Answers.antt', goals, found, more)
     if loops:
-        write(f'{folder}/Invariants.antt', list(loops), loops, more)
+        write(f'{folder}/Invariants.antt', list(loops) + kept, loops, more)
 
 
 def places_of(crate):
@@ -796,8 +839,8 @@ def places_of(crate):
         if not os.path.exists(f'{folder}/names.json'):
             sys.exit(said)
         listed = json.load(open(f'{folder}/names.json'))
-    # a function's key ends in F.Lts, a cycle's member's in +NAME.Lts-F
-    return {key.split('.Lts-')[1] if '.Lts-' in key else key.split('.')[-2]: record for key, record in listed.items() if 'places' in record}
+    # a function's key ends in F.Lts, a cycle's member's in +NAME.Lts-F, or Lts-MODULE-F
+    return {key.split('.Lts-')[1].split('-')[-1] if '.Lts-' in key else key.split('.')[-2]: record for key, record in listed.items() if 'places' in record}
 
 
 def main():
@@ -811,10 +854,11 @@ def main():
     record, units = places_of(crate), {}
     for name in sorted(contracts(crate)):
         f, w = known[name], words.get(name, {})
-        if not w.get('by-hand') and (f.rule or w.get('by-words')):
+        if f.rule or w.get('by-words'):
             units.setdefault(f.unit(), []).append(f)
     for fns in units.values():
-        if not only or set(only) & {f.name for f in fns}:
+        by_hand = all(words.get(f.name, {}).get('by-hand') for f in fns)
+        if not by_hand and (not only or set(only) & {f.name for f in fns}):
             prove(fns, record, known, defs, words)
 
 

@@ -3,7 +3,6 @@ WORDS = {
     # its level is bounded besides
     'stream': {'by-hand': True},
     'modifiers': {
-        'inv': 'Loop (repeat modifiers_turn (l.is_const, l.has_mods)) (repeat modifiers_turn (false, false)) l.initial.t l.t l.kinds l.lens l.initial.table l.table',
-        'none': '(false, false)',
+        'inv': 'Loop (repeat modifiers_turn (l.is_const, l.has_mods)) (repeat modifiers_turn (false, false)) l.initial.p l.p',
     },
 }

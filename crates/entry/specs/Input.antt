@@ -1,6 +1,6 @@
 -- Refusals 1 to 5: the separator, the two searches over the input, and what the guards come to.
 -- Assumes nothing.
-use Rattle.std.specs.Prelude.{ℕ, zero, suc, ◌+◌, ◌-◌, ◌≤◌, ◌<◌, ◌≡◌, refl, Bool, not, ◌&&◌, List, [], ◌∷◌, length, drop, get_or, leb}
+use Rattle.std.specs.Prelude.{ℕ, suc, ◌+◌, ◌-◌, ◌≤◌, ◌<◌, ◌≡◌, refl, Bool, not, ◌&&◌, List, [], ◌∷◌, length, drop, get_or, leb, Result, Ok, Err}
 use Rattle.std.proofs.Common.{ap, ◌∙◌, arith, add-one, drop_of_length-le, drop-cons}
 use Rattle.std.proofs.Math.Path.{sym}
 use Rattle.std.proofs.Math.Bool.{true, false}
@@ -10,8 +10,10 @@ use Rattle.definition.specs.Classes.{is_token, is_trivia}
 use Rattle.definition.specs.Tape.{Out, refused, guard}
 use Rattle.definition.specs.Parse.{exprs, is_entry, first_not, first_over, admitted, number_of, place_of}
 use Rattle.laws.specs.Sizes.{total}
-use Rattle.entry.specs.declared.Refusal.{Refusal}
-use Rattle.entry.specs.Round.{Checked}
+use Rattle.tape.specs.Numbers.{number_of as code_of}
+use Rattle.tape.specs.declared.refusal.Refusal.{Refusal}
+use Rattle.entry.specs.Promise.{same_refusal}
+use Rattle.entry.specs.Round.{Passes, Checked}
 
 -- ## The separator
 
@@ -96,80 +98,60 @@ over_none n (x ∷ l) e = go (leb x n) refl (over_none (n - x) l)
 
 -- ## Refusals 1 to 5
 
-module _ {ks ls : List ℕ} {valid : Bool} {r : Refusal} where
-  -- a refusal n + 1 at pl, whatever follows
-  refusing : (n pl : ℕ) → ((k : Unit {0} → Out (Unit {0})) → admitted valid ks ls k ≡ refused (suc n) pl) → r ≡ record { number = suc n; place = pl } → Checked valid ks ls r
-  refusing n pl f q =
-      rw q
-      record {
-        passes = λ z. absurd (omega arith);
-        stops = λ z k. f k;
-        nowhere = λ z. absurd (omega arith);
-        sized = λ z. absurd (omega arith);
-      }
-
-  pub refuse_entry : not valid ≡ true → r ≡ record { number = 1; place = 0 } → Checked valid ks ls r
-  unfolding admitted guard
-  refuse_entry v q = refusing 0 0 (λ k. rw (not-true valid v)) q
+module _ (valid : Bool) (ks ls : List ℕ) where
+  module _ (v : not valid ≡ true) where
+    pub refuse_entry : (k : Unit {0} → Out (Unit {0})) → admitted valid ks ls k ≡ refused 1 0
+    unfolding admitted guard
+    refuse_entry k = rw (not-true valid v)
 
   module _ (v : not valid ≡ false) where
-    pub refuse_pair : (length ks ≡ length ls → ⊥) → r ≡ record { number = 2; place = 0 } → Checked valid ks ls r
+    pub refuse_pair : (length ks ≡ length ls → ⊥) → (k : Unit {0} → Out (Unit {0})) → admitted valid ks ls k ≡ refused 2 0
     unfolding admitted guard
-    refuse_pair h q = refusing 1 0 (λ k. rw (not-false valid v, ne_eqb (length ks) (length ls) h)) q
+    refuse_pair h k = rw (not-false valid v, ne_eqb (length ks) (length ls) h)
 
     module _ (p : length ks ≡ length ls) where
-      pub refuse_many : 65535 < length ks → r ≡ record { number = 3; place = 0 } → Checked valid ks ls r
+      pub refuse_many : 65535 < length ks → (k : Unit {0} → Out (Unit {0})) → admitted valid ks ls k ≡ refused 3 0
       unfolding admitted guard
-      refuse_many h q = refusing 2 0 (λ k. rw (not-false valid v, eq-eqb (length ks) (length ls) p, lt-leb (length ks) 65535 h)) q
+      refuse_many h k = rw (not-false valid v, eq-eqb (length ks) (length ls) p, lt-leb (length ks) 65535 h)
 
-      module _ (m : length ks ≤ 65535) {bad : ℕ} (e : bad ≡ first_not is_token ks) where
-        pub refuse_kind : (bad ≡ length ks → ⊥) → r ≡ record { number = 4; place = bad } → Checked valid ks ls r
+      module _ (m : length ks ≤ 65535) where
+        pub refuse_kind : {bad : ℕ} → bad < length ks → bad ≡ first_not is_token ks → (k : Unit {0} → Out (Unit {0})) → admitted valid ks ls k ≡ refused 4 bad
         unfolding admitted guard
-        refuse_kind h q =
-            refusing 3 bad
-            (λ k. rw (sym e, not-false valid v, eq-eqb (length ks) (length ls) p, le-leb (length ks) 65535 m, ne_eqb bad (length ks) h)) q
+        refuse_kind {bad} h e k = rw (sym e, not-false valid v, eq-eqb (length ks) (length ls) p, le-leb (length ks) 65535 m, ne_eqb bad (length ks) (λ x. omega arith))
 
-        module _ (t : bad ≡ length ks) {over : ℕ} (f : over ≡ first_over 16777216 ls) where
-          pub refuse_total : (over ≡ length ks → ⊥) → r ≡ record { number = 5; place = over } → Checked valid ks ls r
+        module _ (t : length ks ≡ first_not is_token ks) where
+          pub refuse_total : {over : ℕ} → over < length ls → over ≡ first_over 16777216 ls → (k : Unit {0} → Out (Unit {0})) → admitted valid ks ls k ≡ refused 5 over
           unfolding admitted guard
-          refuse_total h q =
-              let g : eqb over (length ls) ≡ false = ne_eqb over (length ls) (λ x. h (x ∙ sym p)) in
-              refusing 4 over
-              (λ k. rw (sym e, sym f, not-false valid v, eq-eqb (length ks) (length ls) p, le-leb (length ks) 65535 m, eq-eqb bad (length ks) t, g)) q
+          refuse_total {over} h f k =
+              let g : eqb over (length ls) ≡ false = ne_eqb over (length ls) (λ x. omega arith) in
+              rw (sym t, sym f, not-false valid v, eq-eqb (length ks) (length ls) p, le-leb (length ks) 65535 m, eq-eqb (length ks) (length ks) refl, g)
 
-          pub admit : over ≡ length ks → r ≡ record { number = 0; place = 0 } → Checked valid ks ls r
+          pub admit : length ls ≡ first_over 16777216 ls → Passes valid ks ls
           unfolding admitted guard
-          admit h q =
-              let g : eqb over (length ls) ≡ true = eq-eqb over (length ls) (h ∙ p) in
-              rw q
+          admit f =
               record {
-                passes = λ z k. rw (sym e, sym f, not-false valid v, eq-eqb (length ks) (length ls) p, le-leb (length ks) 65535 m, eq-eqb bad (length ks) t, g);
-                stops = λ z. absurd (z refl);
-                nowhere = λ z. refl;
-                sized = λ z. record { pair = sym p; few = m; small = over_none 16777216 ls (sym f ∙ (h ∙ p)) };
+                on = λ k. rw (sym t, sym f, not-false valid v, eq-eqb (length ks) (length ls) p, le-leb (length ks) 65535 m, eq-eqb (length ks) (length ks) refl, eq-eqb (length ls) (length ls) refl);
+                sized = record { pair = sym p; few = m; small = over_none 16777216 ls (sym f) };
               }
 
 -- ## Nothing is left open
 
--- what passes does not stop: a refusal that follows would have to be one of the five
-not_both : {valid : Bool} {ks ls : List ℕ} {r x : Refusal} → Checked valid ks ls r → Checked valid ks ls x → r.number ≡ 0 → (x.number ≡ 0 → ⊥) → ⊥
-unfolding number_of
-not_both {x = x} c d z y =
-    let after : (u : Unit {0}) → Out (Unit {0}) = λ u. refused (suc x.number) 0 in
-    omega (arith, ap number_of (sym (c.passes z after) ∙ d.stops y after))
+-- any two answers that `check` is allowed are the same
+after : Unit {0} → Out (Unit {0})
+after u = refused 0 0
 
--- any two refusals that `check` is allowed are the same
-pub only_refusal : {valid : Bool} {ks ls : List ℕ} {r x : Refusal} → Checked valid ks ls r → Checked valid ks ls x → (r.number ≡ x.number) × (r.place ≡ x.place)
-unfolding number_of place_of
-only_refusal {valid} {ks} {ls} {r} {x} c d = go r.number x.number refl refl
-  where
-    after : (u : Unit {0}) → Out (Unit {0})
-    after u = refused 0 0
+module _ (valid : Bool) (ks ls : List ℕ) where
+  not_both : (e : Refusal) → Passes valid ks ls → Checked valid ks ls (Err e) → ⊥
+  unfolding number_of
+  not_both e p q =
+      let next : (u : Unit {0}) → Out (Unit {0}) = λ u. refused (suc (code_of e.reason)) 0 in
+      omega (arith, ap number_of (sym (p.on next) ∙ q next))
 
-    go : (n m : ℕ) → r.number ≡ n → x.number ≡ m → (r.number ≡ x.number) × (r.place ≡ x.place)
-    go zero zero e f = (e ∙ sym f, c.nowhere e ∙ sym (d.nowhere f))
-    go zero (suc m) e f = absurd (not_both c d e (λ z. omega (arith, f)))
-    go (suc n) zero e f = absurd (not_both d c f (λ z. omega (arith, e)))
-    go (suc n) (suc m) e f =
-        let same = sym (c.stops (λ z. omega (arith, e)) after) ∙ d.stops (λ z. omega (arith, f)) after in
-        (ap number_of same, ap place_of same)
+  pub only_refusal : (o x : Result (Unit {0}) Refusal) → Checked valid ks ls o → Checked valid ks ls x → o ≡ x
+  unfolding number_of place_of
+  only_refusal (Ok u) (Ok v) c d = refl
+  only_refusal (Ok u) (Err e) c d = absurd (not_both e c d)
+  only_refusal (Err e) (Ok v) c d = absurd (not_both e d c)
+  only_refusal (Err e) (Err f) c d =
+      let same = sym (c after) ∙ d after in
+      ap Err (same_refusal e f (ap number_of same) (ap place_of same))

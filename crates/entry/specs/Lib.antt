@@ -1,4 +1,5 @@
 pub mod Promise
+pub mod Numbered
 pub mod Round
 pub mod Input
 pub mod Table

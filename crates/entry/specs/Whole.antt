@@ -1,70 +1,45 @@
--- A call put together: the tape that starts, and what its answer comes to before and after the parse.
+-- A call put together: `valid` is what the code found of limit and entry, and tab the table that was lent.
 -- Assumes nothing.
-use Rattle.std.specs.Prelude.{ℕ, ◌*◌, ◌/◌, ◌≤◌, ◌≡◌, refl, Bool, ◌&&◌, List, length}
-use Rattle.std.proofs.Common.{sym, arith}
-use Rattle.std.proofs.Math.Nat.{min-le_left, min-le_right, mul-div-le}
-use Rattle.std.proofs.Math.Seq.{drop-nil}
-use Rattle.definition.specs.Tape.{In, Row, capacity, leaves_len, start_of}
-use Rattle.definition.specs.Prog.{Prog}
+use Rattle.std.specs.Prelude.{ℕ, ◌≡◌, refl, Bool, ◌&&◌, List, length, Result, Ok, Err}
+use Rattle.std.proofs.Common.{sym, subst, ◌∙◌}
+use Rattle.definition.specs.Tape.{ok}
 use Rattle.definition.specs.Parse.{Entry, program, is_limit, parse, is_entry, admitted, run, start}
-use Rattle.laws.specs.Sizes.{total, Fits}
-use Rattle.tape.specs.View.{in_of, state_of, rows_in, Sized, Begins, Step}
-use Rattle.tape.specs.Rows.{length_rows}
+use Rattle.tape.specs.Ready.{in_of, rows_in}
+use Rattle.tape.specs.View.{given, state_of, out_of, Begins, Step}
+use Rattle.tape.specs.declared.refusal.Refusal.{Refusal}
 use Rattle.tape.specs.declared.Tape.{Tape}
-use Rattle.entry.specs.declared.Outcome.{Outcome}
-use Rattle.entry.specs.declared.Outcome.TheVariants.{Refused}
-use Rattle.entry.specs.declared.Refusal.{Refusal}
-use Rattle.entry.specs.Promise.{Wrote}
-use Rattle.entry.specs.Round.{Checked, Starts, Counted, Came}
-use Rattle.entry.specs.Table.{refused_leaves, came_leaves}
+use Rattle.entry.specs.Promise.{Leaves, Wrote}
+use Rattle.entry.specs.Round.{Checked}
+use Rattle.entry.specs.Table.{refused_leaves, tree_leaves}
 
--- ## The start
-
-begins_state : {limit : ℕ} {t : Tape} {ks : List ℕ} (tab : List ℕ) → Begins limit t ks → state_of t tab ≡ start
+pub begins_state : {limit : ℕ} {t : Tape} {ks ls tab : List ℕ} → Begins limit t ks ls tab → state_of t ≡ start
 unfolding start rows_in
-begins_state tab b = rw (b.at, b.byte, b.rows)
+begins_state b = rw (b.at, b.byte, b.rows)
 
-fits_start : (i : In) → Fits i start
-unfolding start total leaves_len start_of
-fits_start i =
-    record {
-      rows = omega arith;
-      end = omega arith;
-      byte = refl;
-      leaves = refl;
-      starts = λ m. rw (drop-nil {A = Row} m) (omega arith);
-    }
+begins_given : {limit : ℕ} {t : Tape} {ks ls tab : List ℕ} → Begins limit t ks ls tab → given t ≡ in_of ks ls tab
+begins_given b = rw (b.kinds, b.lens, b.table)
 
-pub starts : {limit : ℕ} {t : Tape} {ks ls : List ℕ} → Sized ks ls → Begins limit t ks → Starts limit t ks ls
-starts {ks = ks} {ls = ls} s b =
-    record {
-      ready = λ tab. record { going = b.going; sized = s; looks = b.looks; fits = rw (begins_state tab b) (fits_start (in_of ks ls tab)) };
-      state = λ tab. begins_state tab b;
-      left = b.left;
-    }
-
--- ## A call put together: `valid` is what the code found of limit and entry
-
--- what `outcome_of` asks, of what a rule ensures; and that the rows lie in the table
-module _ {A : Type 0} {m : ℕ} {p : Prog A} {a : A} {t r : Tape} {ks ls tab tab' : List ℕ} (w : Step m p a t r ks ls tab tab') where
-  pub counted : Counted r
-  unfolding capacity
-  counted = record { few = λ z. omega (arith, (w.ready z).fits.rows, length_rows r.rows tab', min-le_right (length tab' / 4) 4294967295) }
-
-  inside : r.no ≡ 0 → 4 * r.rows ≤ length tab'
-  unfolding capacity
-  inside z = omega (arith, (w.ready z).fits.rows, length_rows r.rows tab', min-le_left (length tab' / 4) 4294967295, mul-div-le (length tab') 4)
-
-module _ (e : Entry) (limit : ℕ) {valid : Bool} (v : valid ≡ is_limit limit && is_entry e) {ks ls : List ℕ} {f : Refusal} (c : Checked valid ks ls f) (tab : List ℕ) where
+module _ (e : Entry) (limit : ℕ) {valid : Bool} (v : valid ≡ is_limit limit && is_entry e) (ks ls tab : List ℕ) where
   parse_is : parse e ks ls (length tab) limit ≡ admitted valid ks ls (λ u. run (in_of ks ls tab) limit 0 (program e) start)
   unfolding parse
   parse_is = rw v
 
   -- refused before the parse
-  pub entry_refused : {r : Outcome} → (f.number ≡ 0 → ⊥) → r ≡ Refused f.number f.place → Wrote e ks ls (length tab) limit r tab
-  entry_refused z q = rw (q, parse_is, c.stops z (λ u. run (in_of ks ls tab) limit 0 (program e) start)) (refused_leaves f.number f.place tab)
+  pub entry_refused : {f : Refusal} → Checked valid ks ls (Err f) → Wrote e ks ls (length tab) limit (Err f) tab
+  entry_refused {f} c = rw (parse_is, c (λ u. run (in_of ks ls tab) limit 0 (program e) start)) (refused_leaves f tab refl)
 
-  -- parsed: what the tape comes to by the entry's program, from `begin`'s tape
-  pub entry_parsed : {r : Outcome} {t u : Tape} {tab' : List ℕ} → f.number ≡ 0 → Starts limit t ks ls → Step 0 (program e) tt t u ks ls tab tab' → Came u r → Wrote e ks ls (length tab) limit r tab'
-  entry_parsed z s w q =
-      rw (parse_is, c.passes z (λ u. run (in_of ks ls tab) limit 0 (program e) start), sym (s.state tab), sym s.left, sym w.is, sym w.len) (came_leaves q (inside w))
+  module _ (c : Checked valid ks ls (Ok tt)) {t u : Tape} (b : Begins limit t ks ls tab) where
+    -- what the tape comes to by the entry's program, from `begin`'s tape
+    comes_to : {o : Result (Unit {0}) Refusal} → Step 0 (program e) o t u → out_of o (state_of u) ≡ parse e ks ls (length tab) limit
+    comes_to w =
+        w.is ∙ ((rw (begins_given b, b.left, begins_state b)) ∙
+        sym (parse_is ∙ c.on (λ u. run (in_of ks ls tab) limit 0 (program e) start)))
+
+    pub entry_stopped : {f : Refusal} {tab' : List ℕ} → Step 0 (program e) (Err f) t u → length tab' ≡ length tab → Wrote e ks ls (length tab) limit (Err f) tab'
+    entry_stopped {f} {tab'} w h = subst (λ (o : _). Leaves o (length tab) (Err f) tab') (comes_to w) (refused_leaves f tab' h)
+
+    pub entry_parsed : {n : ℕ} {tab' : List ℕ} → Step 0 (program e) (Ok tt) t u → n ≡ length (state_of u).out → tab' ≡ u.table.now → Wrote e ks ls (length tab) limit (Ok n) tab'
+    entry_parsed w h g =
+        let l : length u.table.now ≡ length tab = w.kept.same.len ∙ (rw b.table) in
+        rw (h, g) (subst (λ (o : _). Leaves o (length tab) (Ok (length (state_of u).out)) u.table.now) (comes_to w)
+        (subst (λ (n : ℕ). Leaves (ok tt (state_of u)) n (Ok (length (state_of u).out)) u.table.now) l (tree_leaves u)))

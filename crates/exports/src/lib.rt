@@ -1,4 +1,4 @@
-// Every call for C, as a library. (exports_c has the same under their symbols.) Each hands its arguments on, and its answer is three numbers.
+// Every call for C, as a library. (exports_c has the same under their symbols: a crate is a library or a static one, not both.) Each hands its arguments on, and its answer is three numbers.
 #![tactic(auto)]
 
 ghost use Rattle.std.specs.Prelude.{length};
@@ -18,7 +18,7 @@ pub extern "C" fn krosstavel_root(
 ) -> Answer
     ensures { Answered root_entry kinds.now lens.now (length table.old) limit result.number result.place result.rows table.new }
 {
-    entry::as_numbers(krosstavel::root(kinds, lens, table, limit))
+    Answer::from(krosstavel::root(kinds, lens, table, limit))
 }
 
 #[unsafe(no_mangle)]
@@ -31,7 +31,7 @@ pub extern "C" fn krosstavel_exprs(
 ) -> Answer
     ensures { Answered (exprs_entry separator) kinds.now lens.now (length table.old) limit result.number result.place result.rows table.new }
 {
-    entry::as_numbers(krosstavel::exprs(kinds, lens, table, separator, limit))
+    Answer::from(krosstavel::exprs(kinds, lens, table, separator, limit))
 }
 
 #[unsafe(no_mangle)]
@@ -43,7 +43,7 @@ pub extern "C" fn krosstavel_format(
 ) -> Answer
     ensures { Answered format_entry kinds.now lens.now (length table.old) limit result.number result.place result.rows table.new }
 {
-    entry::as_numbers(krosstavel::format(kinds, lens, table, limit))
+    Answer::from(krosstavel::format(kinds, lens, table, limit))
 }
 
 #[unsafe(no_mangle)]

@@ -3,154 +3,117 @@
 #![tactic(auto)]
 
 mod names;
-mod scan;
 mod tree;
 
-ghost use Rattle.std.specs.Prelude.{◌≡◌, length};
 ghost use Rattle.text.specs.Written.{Grows};
 
-use scan::find;
 use std::io::Write;
 use std::{fs, io};
-use text::{Listed, put, put_number, read_full};
-use tree::print;
+use text::{put, put_number, read_full};
+use tree::Tree;
 
 // What `exprs` separates expressions by, and the deepest limit.
 const COMMA: u32 = 24;
 
 const DEEPEST: u32 = 256;
 
-fn refused<W: Write>(out: &mut W, number: u32, place: u32) -> io::Result<()>
-    ensures grows { Grows (W.contents out.old) (W.contents out.new) }
-{
-    put(out, b"refused with ")?;
-    put_number(out, number as u64)?;
-    put(out, b" at token ")?;
-    put_number(out, place as u64)?;
-    put(out, b"\n")
+// Why there is no tree to print.
+#[derive(Clone, Copy)]
+enum Refusal {
+    // The input is not three lines.
+    Lines,
+    // The kinds or the lengths are no list of numbers, or are too many.
+    Numbers,
+    // The parser's own: its number, and the token that it stopped at.
+    Parser { number: u32, place: u32 },
 }
 
-// The parser's answer: its tree, or its refusal.
-fn parse<W: Write>(
-    out: &mut W,
-    text: &[u8],
-    kinds: &[u8],
-    lens: &[u32],
-    table: &mut [u32],
-    names: &[u8],
-) -> io::Result<()>
-    ensures grows { Grows (W.contents out.old) (W.contents out.new) }
-{
-    let a = exports::krosstavel_exprs(kinds, lens, table, COMMA, DEEPEST);
-    if a.number != 0 {
-        return refused(out, a.number, a.place);
+// Room for the tokens' kinds and lengths, and for the tree's table: fixed, since the program has no heap.
+#[derive(Drop)]
+struct Room {
+    kinds: [u8; 4096],
+    lens: [u32; 8192],
+    table: [u32; 8192],
+}
+
+impl Room {
+    fn new() -> Self {
+        Room {
+            kinds: [0; 4096],
+            lens: [0; 8192],
+            table: [0; 8192],
+        }
     }
-    print(out, table, a.rows as usize, text, names)
-}
 
-fn no_guard<W: Write>(out: &mut W) -> io::Result<()>
-    ensures grows { Grows (W.contents out.old) (W.contents out.new) }
-{
-    put(
-        out,
-        b"no guard: three lines are wanted, its text, its tokens' kinds and their lengths\n",
-    )
-}
-
-fn no_list<W: Write>(out: &mut W) -> io::Result<()>
-    ensures grows { Grows (W.contents out.old) (W.contents out.new) }
-{
-    put(
-        out,
-        b"no guard: its tokens' kinds and their lengths are decimal numbers with one space between two\n",
-    )
-}
-
-// The guard's tokens, from their two lines, and its tree. (`lens` is lent for the kinds' numbers first.)
-fn tokens<W: Write>(
-    out: &mut W,
-    text: &[u8],
-    kind_line: &[u8],
-    length_line: &[u8],
-    names: &[u8],
-    kinds: &mut [u8],
-    lens: &mut [u32],
-    table: &mut [u32],
-) -> io::Result<()>
-    ensures grows { Grows (W.contents out.old) (W.contents out.new) }
-{
-    let Listed::Numbers(n) = text::numbers(kind_line, lens) else {
-        return no_list(out);
-    };
-    if !text::narrow(&lens[..n], kinds) {
-        return no_list(out);
+    // Parses a guard's tokens, from their two lines, and tells how many rows the tree in the table has. (`lens` is lent for the kinds' numbers first. The call is
+    // the one that C has, whose answer is numbers.)
+    fn parse(&mut self, kind_line: &[u8], length_line: &[u8]) -> Result<usize, Refusal> {
+        let Room { kinds, lens, table } = self;
+        let n = text::numbers(kind_line, lens).ok_or(Refusal::Numbers)?;
+        text::narrow(&lens[..n], kinds).ok_or(Refusal::Numbers)?;
+        let m = text::numbers(length_line, lens).ok_or(Refusal::Numbers)?;
+        let answer = exports::krosstavel_exprs(&kinds[..n], &lens[..m], table, COMMA, DEEPEST);
+        if answer.number != 0 {
+            return Err(Refusal::Parser {
+                number: answer.number,
+                place: answer.place,
+            });
+        }
+        Ok(answer.rows as usize)
     }
-    let Listed::Numbers(m) = text::numbers(length_line, lens) else {
-        return no_list(out);
-    };
-    parse(out, text, &kinds[..n], &lens[..m], table, names)
 }
 
-// The input's three lines, taken apart.
-fn guard<W: Write>(
-    out: &mut W,
-    input: &[u8],
-    names: &[u8],
-    kinds: &mut [u8],
-    lens: &mut [u32],
-    table: &mut [u32],
-) -> io::Result<()>
+// The guard's text, and how many rows its tree has, from the input's three lines.
+fn parse<'a>(input: &'a [u8], room: &mut Room) -> Result<(&'a [u8], usize), Refusal> {
+    let mut lines = input.split(|byte| *byte == b'\n');
+    let text = lines.next().ok_or(Refusal::Lines)?;
+    let kinds = lines.next().ok_or(Refusal::Lines)?;
+    let lengths = lines.next().ok_or(Refusal::Lines)?;
+    let rows = room.parse(kinds, lengths)?;
+    Ok((text, rows))
+}
+
+// (By `put` and not by a `Display` and `write!`, which say nothing of what an error leaves in the writer.)
+fn refuse<W: Write>(out: &mut W, refusal: Refusal) -> io::Result<()>
     ensures grows { Grows (W.contents out.old) (W.contents out.new) }
 {
-    let end = input.len();
-    let a = find(input, 0, end, b'\n');
-    if a == end {
-        return no_guard(out);
+    match refusal {
+        Refusal::Lines => put(
+            out,
+            b"no guard: three lines are wanted, its text, its tokens' kinds and their lengths\n",
+        ),
+        Refusal::Numbers => put(
+            out,
+            b"no guard: its tokens' kinds and their lengths are decimal numbers with one space between two\n",
+        ),
+        Refusal::Parser { number, place } => {
+            put(out, b"refused with ")?;
+            put_number(out, u64::from(number))?;
+            put(out, b" at token ")?;
+            put_number(out, u64::from(place))?;
+            put(out, b"\n")
+        }
     }
-    let second = a + 1;
-    let b = find(input, second, end, b'\n');
-    if b == end {
-        return no_guard(out);
-    }
-    let third = b + 1;
-    let c = find(input, third, end, b'\n');
-    tokens(
-        out,
-        &input[..a],
-        &input[second..b],
-        &input[third..c],
-        names,
-        kinds,
-        lens,
-        table,
-    )
 }
 
-// Room for lengths and for a table. (The contract tells the length alone, which is all that lending it needs.)
-fn room() -> [u32; 8192]
-    ensures { 8192 ≡ length result }
+fn guard<W: Write>(out: &mut W, input: &[u8], names: &[u8], room: &mut Room) -> io::Result<()>
+    ensures grows { Grows (W.contents out.old) (W.contents out.new) }
 {
-    [0; 8192]
+    match parse(input, room) {
+        Ok((text, rows)) => Tree::new(&room.table, rows, text, names).print(out),
+        Err(refusal) => refuse(out, refusal),
+    }
 }
 
 fn main(rt: HostRuntime) -> io::Result<()> {
     let mut names = [0u8; 4096];
     let mut input = [0u8; 4096];
-    let mut kinds = [0u8; 4096];
-    let mut lens = room();
-    let mut table = room();
+    let mut room = Room::new();
     let mut file = match fs::open(&rt, "kinds") {
         Ok(file) => file,
         Err(e) => return eprintln!(rt; "kinds: {e}"),
     };
     let k = read_full(&mut file, &mut names)?;
     let n = read_full(&mut rt.stdin(), &mut input)?;
-    guard(
-        &mut rt.stdout(),
-        &input[..n],
-        &names[..k],
-        &mut kinds,
-        &mut lens,
-        &mut table,
-    )
+    guard(&mut rt.stdout(), &input[..n], &names[..k], &mut room)
 }

@@ -1,12 +1,15 @@
 -- Laws of the classes and operators, for the proofs of whoever calls their tests.
 -- Assumes nothing.
-use Rattle.std.specs.Prelude.{ℕ, ◌≤◌, ◌<◌, ◌≡◌, refl, Bool, true, false, cond, ◌||◌, ◌&&◌, List, [], ◌∷◌, eqb}
+use Rattle.std.specs.Prelude.{ℕ, ◌≤◌, ◌<◌, ◌≡◌, refl, Bool, true, false, cond, ◌||◌, ◌&&◌, List, [], ◌∷◌, Option, None, Some, IsSome, eqb}
 use Rattle.std.proofs.Common.{ap, sym, ◌∙◌, arith, eqb-true, ne_eqb}
 use Rattle.std.proofs.Math.Bool.{and-eq-true_iff}
+use Rattle.std.proofs.lemmas.Bool.{false≢true}
 use Rattle.definition.specs.Kinds.{Eof, K-is, K-not}
 use Rattle.definition.specs.Modes.{Brace, Range}
 use Rattle.definition.specs.Classes.{among, glues, is_token, is_trivia, is_object_key, is_lit, is_path_component, kind_is_stmt_recovering, kind_is_pat, kind_is_expr_with, is_unary, is_use_part, is_use_path, is_pat_or_rest, is_select_arm}
 use Rattle.definition.specs.Operators.{bindings, binding_in, is_none, from_slice}
+use Rattle.kinds.specs.Ops.{op_of, next_of}
+use Rattle.kinds.specs.declared.operators.Op.{Op}
 
 -- ## `among` as a chain of `||`, into which `rw` sees
 
@@ -116,3 +119,24 @@ takes k j =
     there true true h = refl
     there true false h = absurd (omega arith)
     there false b h = absurd (omega arith)
+
+-- ## None is no operator, and Some is one
+
+pub none_is_none : is_none (next_of None) ≡ true
+unfolding is_none
+none_is_none = refl
+
+pub some_is_some : (op : Op) → is_none (op_of op) ≡ false
+unfolding is_none
+some_is_some op = simp (ne_eqb op.binding 0 (λ e. let above = op.binds in omega arith))
+
+-- the other way round, by what the test says of a look-up
+pub none_found : (r : Option Op) → is_none (next_of r) ≡ true → r ≡ None
+unfolding is_none
+none_found None h = refl
+none_found (Some op) h = absurd (false≢true (sym (some_is_some op) ∙ h))
+
+pub some_found : (r : Option Op) → is_none (next_of r) ≡ false → IsSome r
+unfolding is_none
+some_found None h = absurd (false≢true (sym h))
+some_found (Some op) h = refl

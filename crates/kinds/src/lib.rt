@@ -1,5 +1,6 @@
 // The kinds: a constant for each row of docs/KINDS.md, with the row's name behind it, and the tests on kinds that the grammar makes.
-// The constants are read by tools/check-kinds, which holds them to that page.
+// Kinds are numbers and no enum: C lends and receives them so, a token of an unassigned kind (96 to 127) is written under its own number, and the definition's
+// are numbers too. The constants are read by tools/check-kinds, which holds them to that page.
 #![tactic(auto)]
 
 pub mod classes; // classes.rt: which kinds begin what

@@ -1,34 +1,36 @@
--- How an entry begins: at row 0, and with its separator as it is treated.
+-- How an entry begins: at row 0, with its limit and separator valid, and the separator as it is treated.
 -- Assumes nothing.
-use Rattle.std.specs.Prelude.{ℕ, ◌≤◌, ◌<◌, ◌≡◌, refl, Bool, true, false, cond, not, ◌&&◌, List, leb}
-use Rattle.std.proofs.Common.{subst, sym, ◌∙◌, arith, leb-true}
+use Rattle.std.specs.Prelude.{ℕ, ◌≤◌, ◌<◌, ◌≡◌, refl, Bool, true, false, cond, not, ◌&&◌, List, leb, Result, Ok}
+use Rattle.std.proofs.Common.{subst, sym, ap, ◌∙◌, arith, leb-true}
 use Rattle.definition.specs.Kinds.{K-Other}
 use Rattle.definition.specs.Classes.{is_assigned, treated, is_token, is_trivia, is_some}
 use Rattle.definition.specs.Tape.{State, ok, guard, start_of, leaves_len}
 use Rattle.definition.specs.Prog.{Prog}
-use Rattle.definition.specs.Parse.{Entry, start, admitted, root, exprs, format, is_limit, is_entry}
+use Rattle.definition.specs.Parse.{Entry, start, admitted, exprs, is_limit, is_entry}
 use Rattle.laws.specs.Bools.{and_first, and_second}
 use Rattle.laws.specs.Progress.{not_eof}
 use Rattle.laws.specs.Sizes.{Based}
-use Rattle.tape.specs.View.{Marked, Step}
+use Rattle.tape.specs.View.{Marked, Begins, Step}
+use Rattle.tape.specs.declared.refusal.Refusal.{Refusal}
 use Rattle.tape.specs.declared.Tape.{Tape}
-use Rattle.entry.specs.Round.{Checked, Starts}
-use Rattle.entry.specs.declared.Refusal.{Refusal}
+use Rattle.entry.specs.Round.{entry_of, Checked}
+use Rattle.entry.specs.declared.Entry.{Entry as Asking}
+use Rattle.entry.specs.Whole.{begins_state}
 
 -- a separator is compared as a kind that is no Eof
 pub record Treated (separator : ℕ) : Type 0 where
   pub some : 0 < treated separator
 
 -- row 0 is a mark
-pub marked_start : {limit : ℕ} {t : Tape} {ks ls : List ℕ} (tab : List ℕ) → Starts limit t ks ls → Marked 0 t tab
+pub marked_start : {limit : ℕ} {t : Tape} {ks ls tab : List ℕ} → Begins limit t ks ls tab → Marked 0 t
 unfolding start start_of leaves_len
-marked_start tab s =
-    let b : Based 0 start = record { low = omega arith; sum = refl } in
-    record { based = subst (λ (x : State). Based 0 x) (sym (s.state tab)) b }
+marked_start b =
+    let s : Based 0 start = record { low = omega arith; sum = refl } in
+    record { based = subst (λ (x : State). Based 0 x) (sym (begins_state b)) s }
 
 -- a step of the same program under another name
-pub same_step : {A : Type 0} {m : ℕ} {p q : Prog A} {a : A} {t r : Tape} {ks ls tab tab' : List ℕ} → p ≡ q → Step m p a t r ks ls tab tab' → Step m q a t r ks ls tab tab'
-same_step {m = m} {a = a} {t = t} {r = r} {ks = ks} {ls = ls} {tab = tab} {tab' = tab'} e w = subst (λ (x : Prog _). Step m x a t r ks ls tab tab') e w
+pub same_step : {A : Type 0} {m : ℕ} {p q : Prog A} {o : Result A Refusal} {t r : Tape} → p ≡ q → Step m p o t r → Step m q o t r
+same_step {m = m} {o = o} {t = t} {r = r} e w = subst (λ (x : Prog _). Step m x o t r) e w
 
 -- a kind that is some is no Eof
 pub some_is_some : (k : ℕ) → is_some k ≡ true → k ≡ 0 → ⊥
@@ -41,39 +43,46 @@ with_true : (b : Bool) → b ≡ (b && true)
 with_true true = refl
 with_true false = refl
 
-pub valid_root : {b : Bool} (limit : ℕ) → b ≡ is_limit limit → b ≡ (is_limit limit && is_entry root)
-unfolding is_entry
-valid_root limit e = e ∙ with_true (is_limit limit)
-
-pub valid_format : {b : Bool} (limit : ℕ) → b ≡ is_limit limit → b ≡ (is_limit limit && is_entry format)
-unfolding is_entry
-valid_format limit e = e ∙ with_true (is_limit limit)
+-- where an entry brings no separator, the limit alone is to be valid
+pub valid_alone : (e : Entry) (limit : ℕ) {b : Bool} → is_entry e ≡ true → b ≡ is_limit limit → b ≡ (is_limit limit && is_entry e)
+valid_alone e limit h f = rw h (f ∙ with_true (is_limit limit))
 
 -- an input that passes the five tests has a valid limit and entry
-pub checked_valid : {valid : Bool} {ks ls : List ℕ} {a : Refusal} → Checked valid ks ls a → a.number ≡ 0 → valid ≡ true
+pub checked_valid : (valid : Bool) {ks ls : List ℕ} → Checked valid ks ls (Ok tt) → valid ≡ true
 unfolding admitted guard
-checked_valid {valid = valid} {ks = ks} {ls = ls} c z = go valid (c.passes z (λ u. ok tt start))
+checked_valid valid {ks} {ls} c = go valid (c.on (λ u. ok tt start))
   where
     go : (b : Bool) → admitted b ks ls (λ u. ok (tt {0}) start) ≡ ok tt start → b ≡ true
     go true e = refl
     go false e = absurd (let x : ◌≡◌ {A = ℕ} 0 1 = cc in omega arith)
 
--- a limit that is let pass fits the tape's count of entries
-pub limit_few : (e : Entry) (limit : ℕ) {valid : Bool} {ks ls : List ℕ} {a : Refusal} → valid ≡ (is_limit limit && is_entry e) → Checked valid ks ls a → a.number ≡ 0 → limit ≤ 65535
-unfolding is_limit
-limit_few e limit v c z =
-    let h : (leb 1 limit && leb limit 256) ≡ true = and_first (leb 1 limit && leb limit 256) (is_entry e) (sym v ∙ checked_valid c z) in
-    omega (arith, leb-true limit 256 (and_second (leb 1 limit) (leb limit 256) h))
+module _ (e : Entry) (limit : ℕ) {valid : Bool} (v : valid ≡ (is_limit limit && is_entry e)) {ks ls : List ℕ} (c : Checked valid ks ls (Ok tt)) where
+  both_valid : (is_limit limit && is_entry e) ≡ true
+  both_valid = sym v ∙ checked_valid valid c
+
+  -- a limit that is let pass fits the tape's count of entries
+  pub limit_few : limit ≤ 65535
+  unfolding is_limit
+  limit_few =
+      let h : (leb 1 limit && leb limit 256) ≡ true = and_first (leb 1 limit && leb limit 256) (is_entry e) both_valid in
+      omega (arith, leb-true limit 256 (and_second (leb 1 limit) (leb limit 256) h))
+
+  pub entry_valid : is_entry e ≡ true
+  entry_valid = and_second (is_limit limit) (is_entry e) both_valid
 
 pub record Fine (separator : ℕ) : Type 0 where
   pub some : 1 ≤ separator
   pub small : separator ≤ 127
 
-pub fine : (b : Bool) (separator : ℕ) → (b && is_entry (exprs separator)) ≡ true → Fine separator
+pub fine : (separator : ℕ) → is_entry (exprs separator) ≡ true → Fine separator
 unfolding is_entry is_token
-fine b separator h =
-    let e : (leb 1 separator && leb separator 127) ≡ true = and_first (leb 1 separator && leb separator 127) (not (is_trivia separator)) (and_second b (is_entry (exprs separator)) h) in
+fine separator h =
+    let e : (leb 1 separator && leb separator 127) ≡ true = and_first (leb 1 separator && leb separator 127) (not (is_trivia separator)) h in
     record { some = leb-true 1 separator (and_first (leb 1 separator) (leb separator 127) e); small = leb-true separator 127 (and_second (leb 1 separator) (leb separator 127) e) }
+
+-- of an entry that brings one
+pub asked_for : {e : Asking} {separator : ℕ} → e ≡ Asking.Exprs separator → is_entry (entry_of e) ≡ true → Fine separator
+asked_for {separator = separator} e h = fine separator (sym (ap (λ (x : Asking). is_entry (entry_of x)) e) ∙ h)
 
 pub treated_some : {separator : ℕ} → Fine separator → Treated separator
 unfolding treated

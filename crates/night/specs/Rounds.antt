@@ -1,6 +1,6 @@
 -- The loop over the jobs: what its functions ask and ensure, what holds before each turn, and that the definition's night comes of it.
 -- Assumes nothing.
-use Rattle.std.specs.Prelude.{ℕ, zero, suc, ◌+◌, ◌-◌, ◌*◌, ◌≤◌, ◌<◌, min, ◌≡◌, List, [], ◌∷◌, ◌++◌, map, length, take, drop, get_or, set}
+use Rattle.std.specs.Prelude.{ℕ, ◌+◌, ◌-◌, ◌*◌, ◌≤◌, ◌<◌, min, ◌≡◌, List, [], ◌∷◌, ◌++◌, map, length, take, drop, get_or, set, Result, Ok, Err}
 use Rattle.std.proofs.Math.Path.{refl}
 use Rattle.std.proofs.Common.{ap, sym, ◌∙◌, append-nil, arith, add-one, length-set, length-append, drop-drop, drop-set-lt, get_or-drop, take_all, take-suc}
 use Rattle.std.proofs.lemmas.List.{length-map}
@@ -8,23 +8,22 @@ use Rattle.std.proofs.Math.Seq.{take-suc-set}
 use Rattle.definition.specs.Tape.{Row, Out}
 use Rattle.definition.specs.Parse.{flat, number_of, place_of, rows_of}
 use Rattle.definition.specs.Night as definition
-use Rattle.definition.specs.Night.{Night, outcome, night, refusal, batch, table_after}
+use Rattle.definition.specs.Night.{outcome, night, refusal, batch, table_after}
 use Rattle.laws.specs.Flat.{flat_append, flat_length}
 use Rattle.laws.specs.Nights.{joined, free, night_append, batch_runs, batch_refused}
+use Rattle.tape.specs.Numbers.{number_of as code_of}
+use Rattle.tape.specs.declared.refusal.Reason.{Reason}
 use Rattle.entry.specs.Round.{Zeroed}
 use Rattle.entry.specs.declared.Answer.{Answer}
 use Rattle.night.specs.declared.Job.{Job}
-use Rattle.night.specs.declared.Plan.{Plan}
 use Rattle.night.specs.Promise.{job_of, replied, Nightly}
 
 -- ## What the functions of the loop ask and ensure
 
--- `check`, of n jobs
-pub record Planned (n : ℕ) (ks ls : List ℕ) (p : Plan) : Type 0 where
-  pub number_is : p.number ≡ refusal n ks ls
-  pub all : p.number ≡ 0 → p.jobs ≡ n
-  pub none : (p.number ≡ 0 → ⊥) → p.jobs ≡ 0
-  pub pair : p.number ≡ 0 → length ks ≡ length ls
+-- `check`, of n jobs: it lets pass what the definition's call does, or has its refusal
+abbrev pub Planned : ℕ → List ℕ → List ℕ → Result (Unit {0}) Reason → Type 0
+Planned n ks ls (Ok u) = (refusal n ks ls ≡ 0) × (length ks ≡ length ls)
+Planned n ks ls (Err e) = (refusal n ks ls ≡ code_of e) × (1 ≤ code_of e)
 
 -- `run`, with so many rows taken
 pub record Runs (rows : ℕ) (ks ls tab : List ℕ) : Type 0 where
@@ -44,9 +43,6 @@ pub record Done (j : Job) (rows : ℕ) (ks ls tab : List ℕ) (r : Job) (tab' : 
   pub front : take (4 * (rows + r.answer.rows)) tab' ≡ take (4 * rows) tab ++ flat (rows_of (outcome_at rows ks ls tab j))
 
 -- `end`
-pub record Ending (rows : ℕ) (tab : List ℕ) : Type 0 where
-  pub inside : 4 * rows ≤ length tab
-
 pub record Ended (number rows : ℕ) (tab : List ℕ) (a : Answer) (tab' : List ℕ) : Type 0 where
   pub is : a ≡ record { number = number; place = 0; rows = min rows 4294967295 }
   pub zeroed : Zeroed (4 * rows) tab tab'
@@ -54,9 +50,8 @@ pub record Ended (number rows : ℕ) (tab : List ℕ) (a : Answer) (tab' : List 
 -- ## Before a turn
 
 -- i jobs are run: their records and the rows in front are the definition's night of those jobs, and the records behind them are as they were
-pub record Round (ks ls : List ℕ) (p : Plan) (jobs₀ : List Job) (tab₀ : List ℕ) (i rows : ℕ) (jobs : List Job) (tab : List ℕ) : Type 0 where
-  pub plan : Planned (length jobs₀) ks ls p
-  pub low : i ≤ p.jobs
+pub record Round (ks ls : List ℕ) (jobs₀ : List Job) (tab₀ : List ℕ) (i rows : ℕ) (jobs : List Job) (tab : List ℕ) : Type 0 where
+  pub low : i ≤ length jobs₀
   pub jobs_len : length jobs ≡ length jobs₀
   pub behind : drop i jobs ≡ drop i jobs₀
   pub len : length tab ≡ length tab₀
@@ -66,11 +61,10 @@ pub record Round (ks ls : List ℕ) (p : Plan) (jobs₀ : List Job) (tab₀ : Li
   pub front : take (4 * rows) tab ≡ flat taken
   pub so_far : night ks ls (length tab₀) (map job_of (take i jobs₀)) ≡ record { jobs = map job_of (take i jobs); rows = taken }
 
-pub begins : {ks ls : List ℕ} {p : Plan} {jobs : List Job} {tab : List ℕ} → Planned (length jobs) ks ls p → Round ks ls p jobs tab 0 0 jobs tab
+pub begins : (ks ls : List ℕ) (jobs : List Job) (tab : List ℕ) → Round ks ls jobs tab 0 0 jobs tab
 unfolding flat night
-begins q =
+begins ks ls jobs tab =
     record {
-      plan = q;
       low = omega arith;
       jobs_len = refl;
       behind = refl;
@@ -82,38 +76,9 @@ begins q =
       so_far = refl;
     }
 
--- no more jobs are run than there are
-few : {n : ℕ} {ks ls : List ℕ} {p : Plan} → Planned n ks ls p → p.jobs ≤ n
-few {n} {p = p} q = go p.number refl
-  where
-    go : (m : ℕ) → p.number ≡ m → p.jobs ≤ n
-    go zero e = omega (arith, q.all e)
-    go (suc m) e = omega (arith, q.none (λ z. omega (arith, z, e)))
-
--- a plan with a job in it is no refusal
-running : {n i : ℕ} {ks ls : List ℕ} {p : Plan} → Planned n ks ls p → i < p.jobs → p.number ≡ 0
-running {p = p} q h = go p.number refl
-  where
-    go : (m : ℕ) → p.number ≡ m → p.number ≡ 0
-    go zero e = e
-    go (suc m) e = absurd (omega (arith, h, q.none (λ z. omega (arith, z, e))))
-
 pub map_append : (l m : List Job) → map job_of (l ++ m) ≡ map job_of l ++ map job_of m
 map_append [] m = refl
 map_append (x ∷ l) m = ap (λ (k : List definition.Job). job_of x ∷ k) (map_append l m)
-
-module _ {ks ls : List ℕ} {p : Plan} {jobs₀ jobs : List Job} {tab₀ tab : List ℕ} {i rows : ℕ} where
-  pub round_inside : Round ks ls p jobs₀ tab₀ i rows jobs tab → i < p.jobs → i < length jobs
-  round_inside q h = omega (arith, h, few q.plan, q.jobs_len)
-
-  pub rows_inside : Round ks ls p jobs₀ tab₀ i rows jobs tab → 4 * rows ≤ length tab
-  rows_inside q = q.inside
-
-  pub may_run : Round ks ls p jobs₀ tab₀ i rows jobs tab → i < p.jobs → Runs rows ks ls tab
-  may_run q h = record { pair = q.plan.pair (running q.plan h); inside = q.inside }
-
-  pub may_end : Round ks ls p jobs₀ tab₀ i rows jobs tab → Ending rows tab
-  may_end q = record { inside = q.inside }
 
 -- ## A turn
 
@@ -126,7 +91,7 @@ one_more ks ls n xs j =
     let o = outcome ks ls (free n a) j in
     night_append ks ls n xs (j ∷ []) ∙ ap (λ (l : List Row). joined a (record { jobs = definition.answered j o ∷ []; rows = l })) (append-nil (rows_of o))
 
-module _ {ks ls : List ℕ} {p : Plan} {jobs₀ jobs : List Job} {tab₀ tab tab' : List ℕ} {i rows : ℕ} (d r : Job) (q : Round ks ls p jobs₀ tab₀ i rows jobs tab) (h : i < p.jobs)
+module _ {ks ls : List ℕ} {jobs₀ jobs : List Job} {tab₀ tab tab' : List ℕ} {i rows : ℕ} (d r : Job) (q : Round ks ls jobs₀ tab₀ i rows jobs tab) (h : i < length jobs₀)
     (e : Done (get_or jobs i d) rows ks ls tab r tab') where
   abbrev job : Job
   job = get_or jobs i d
@@ -145,17 +110,16 @@ module _ {ks ls : List ℕ} {p : Plan} {jobs₀ jobs : List Job} {tab₀ tab tab
   freed = omega (arith, flat_length q.taken, q.count, q.len)
 
   first_jobs : map job_of (take (i + 1) jobs₀) ≡ map job_of (take i jobs₀) ++ job_of job ∷ []
-  first_jobs = rw (add-one i, take-suc jobs₀ i d (omega (arith, h, few q.plan)), map_append (take i jobs₀) (get_or jobs₀ i d ∷ []), same)
+  first_jobs = rw (add-one i, take-suc jobs₀ i d h, map_append (take i jobs₀) (get_or jobs₀ i d ∷ []), same)
 
   first_records : map job_of (take (i + 1) (set jobs i r)) ≡ map job_of (take i jobs) ++ definition.answered (job_of job) come ∷ []
   unfolding definition.answered
-  first_records = rw (add-one i, take-suc-set jobs i r (round_inside q h), map_append (take i jobs) (r ∷ []), e.is)
+  first_records = rw (add-one i, take-suc-set jobs i r (omega (arith, h, q.jobs_len)), map_append (take i jobs) (r ∷ []), e.is)
 
-  pub goes_on : Round ks ls p jobs₀ tab₀ (i + 1) (rows + r.answer.rows) (set jobs i r) tab'
+  pub goes_on : Round ks ls jobs₀ tab₀ (i + 1) (rows + r.answer.rows) (set jobs i r) tab'
   goes_on =
       let c : r.answer.rows ≡ length (rows_of come) = ap (λ (x : Job). x.answer.rows) e.is in
       record {
-        plan = q.plan;
         low = omega (arith, h);
         jobs_len = length-set jobs i r ∙ q.jobs_len;
         behind = drop-set-lt (i + 1) jobs i r (omega arith) ∙ (sym (drop-drop 1 i jobs) ∙ (ap (drop 1) q.behind ∙ drop-drop 1 i jobs₀));
@@ -183,28 +147,21 @@ answers ks ls jobs₀ jobs rs m b c f l e =
       table_is = e.zeroed.is ∙ (rw (b, f, l, flat_length rs, c));
     }
 
-module _ {ks ls : List ℕ} {p : Plan} {jobs₀ jobs : List Job} {tab₀ tab tab' : List ℕ} {i rows : ℕ} {a : Answer} where
-  pub ends : Round ks ls p jobs₀ tab₀ i rows jobs tab → p.jobs ≤ i → Ended p.number rows tab a tab' → Nightly ks ls jobs₀ (length tab₀) a jobs tab'
-  unfolding night
-  ends q h e = go p.number refl
-    where
-      number : p.number ≡ refusal (length jobs₀) ks ls
-      number = q.plan.number_is
+-- all jobs are run
+pub ends : {ks ls : List ℕ} {jobs₀ jobs : List Job} {tab₀ tab tab' : List ℕ} {i rows : ℕ} {a : Answer} →
+    Planned (length jobs₀) ks ls (Ok tt) → Round ks ls jobs₀ tab₀ i rows jobs tab → length jobs₀ ≤ i → Ended 0 rows tab a tab' → Nightly ks ls jobs₀ (length tab₀) a jobs tab'
+ends {ks} {ls} {jobs₀} {jobs} {tab₀} {i = i} c q h e =
+    let all : i ≡ length jobs₀ = omega (arith, h, q.low) in
+    let runs : refusal (length (map job_of jobs₀)) ks ls ≡ 0 = rw (length-map jobs₀ job_of) c.0 in
+    let is : night ks ls (length tab₀) (map job_of jobs₀) ≡ record { jobs = map job_of jobs; rows = q.taken } =
+    ap (λ (l : List Job). night ks ls (length tab₀) (map job_of l)) (sym (take_all i jobs₀ (omega (arith, all)))) ∙
+    (q.so_far ∙ ap (λ (l : List Job). record { jobs = map job_of l; rows = q.taken }) (take_all i jobs (omega (arith, all, q.jobs_len)))) in
+    answers ks ls jobs₀ jobs q.taken (sym c.0) (batch_runs ks ls (length tab₀) (map job_of jobs₀) runs ∙ is) q.count q.front q.len e
 
-      count : length (map job_of jobs₀) ≡ length jobs₀
-      count = length-map jobs₀ job_of
-
-      go : (m : ℕ) → p.number ≡ m → Nightly ks ls jobs₀ (length tab₀) a jobs tab'
-      go zero z =
-          let all : i ≡ length jobs₀ = omega (arith, h, q.low, q.plan.all z) in
-          let runs : refusal (length (map job_of jobs₀)) ks ls ≡ 0 = rw count (sym number ∙ z) in
-          let is : night ks ls (length tab₀) (map job_of jobs₀) ≡ record { jobs = map job_of jobs; rows = q.taken } =
-          ap (λ (l : List Job). night ks ls (length tab₀) (map job_of l)) (sym (take_all i jobs₀ (omega (arith, all)))) ∙
-          (q.so_far ∙ ap (λ (l : List Job). record { jobs = map job_of l; rows = q.taken }) (take_all i jobs (omega (arith, all, q.jobs_len)))) in
-          answers ks ls jobs₀ jobs q.taken number (batch_runs ks ls (length tab₀) (map job_of jobs₀) runs ∙ is) q.count q.front q.len e
-      go (suc m) z =
-          let none : i ≡ 0 = omega (arith, q.low, q.plan.none (λ x. omega (arith, x, z))) in
-          let stops : refusal (length (map job_of jobs₀)) ks ls ≡ 0 → ⊥ = λ x. omega (arith, z, number ∙ (ap (λ (k : ℕ). refusal k ks ls) (sym count) ∙ x)) in
-          let taken : q.taken ≡ [] = sym (ap (λ (x : Night). x.rows) q.so_far) ∙ ap (λ (k : ℕ). (night ks ls (length tab₀) (map job_of (take k jobs₀))).rows) none in
-          let jobs_same : jobs ≡ jobs₀ = ap (λ (k : ℕ). drop k jobs) (sym none) ∙ (q.behind ∙ ap (λ (k : ℕ). drop k jobs₀) none) in
-          answers ks ls jobs₀ jobs q.taken number (batch_refused ks ls (length tab₀) (map job_of jobs₀) stops ∙ (rw (sym jobs_same, taken))) q.count q.front q.len e
+-- none is, where the call is refused
+pub stops : {ks ls : List ℕ} (jobs₀ : List Job) (tab₀ : List ℕ) {number : ℕ} {tab' : List ℕ} {a : Answer} (f : Reason) →
+    Planned (length jobs₀) ks ls (Err f) → number ≡ code_of f → Ended number 0 tab₀ a tab' → Nightly ks ls jobs₀ (length tab₀) a jobs₀ tab'
+unfolding flat
+stops {ks} {ls} jobs₀ tab₀ f c h e =
+    let refused : refusal (length (map job_of jobs₀)) ks ls ≡ 0 → ⊥ = λ x. omega (arith, x, ap (λ (k : ℕ). refusal k ks ls) (length-map jobs₀ job_of), c.0, c.1) in
+    answers ks ls jobs₀ jobs₀ [] (h ∙ sym c.0) (batch_refused ks ls (length tab₀) (map job_of jobs₀) refused) refl refl refl e

@@ -1,171 +1,109 @@
 // Token streams, attributes and labels. Each function is a rule of grammar.rs or a part of one: its Rust name and line stand above it.
 ghost use Rattle.std.specs.Prelude.{◌≡◌, ◌<◌};
 ghost use Rattle.definition.specs.Grammar.{stream as stream_prog, token_stream, attribute_stream, inner_attribute, inner_attributes, attribute as attribute_prog, attributes as attributes_prog, label as label_prog, labels as labels_prog};
-ghost use Rattle.tape.specs.View.{said, Ready, Marked, Step, Ran};
+ghost use Rattle.tape.specs.View.{Ran};
 ghost use Rattle.kinds.specs.Matchers.{matcher_of};
 
+use kinds::classes::glues;
 use kinds::matcher::Matcher;
 use kinds::*;
 use tape::Tape;
+use tape::refusal::{Reason, Refusal};
 
 // token_stream (1427): its loop, to the bracket that closes. The end is seen before anything is written.
-fn stream(tape: Tape, m: Matcher, kinds: &[u8], lens: &[u32], table: &mut [u32]) -> Tape
-    requires { Ready tape kinds.now lens.now table.old }
-    ensures { Ran (stream_prog (matcher_of m)) tt tape result kinds.now lens.now table.old table.new }
+fn stream(p: &mut Tape, m: Matcher) -> Result<(), Refusal>
+    ensures { Ran (stream_prog (matcher_of m)) result p.old p.new }
 {
-    let mut t = tape;
     let mut level = 1u32;
     loop {
-        let k = t.peek(kinds);
+        let k = p.peek();
         if k == EOF {
-            return t.refuse(8, t.next);
+            return Err(p.refusal(Reason::Unclosed));
         }
-        level = kinds::matcher::level_after(m, k, level);
+        level = m.level_after(k, level);
         if level == 0 {
-            return t;
+            return Ok(());
         }
-        t = t.bump(kinds, lens, table);
-        if t.no != 0 {
-            return t;
-        }
+        p.bump()?;
     }
 }
 
 // token_stream (1427).
-pub fn token_stream(tape: Tape, m: Matcher, kinds: &[u8], lens: &[u32], table: &mut [u32]) -> Tape
-    requires { Ready tape kinds.now lens.now table.old }
-    ensures { Ran (token_stream (matcher_of m)) tt tape result kinds.now lens.now table.old table.new }
+pub fn token_stream(p: &mut Tape, m: Matcher) -> Result<(), Refusal>
+    ensures { Ran (token_stream (matcher_of m)) result p.old p.new }
 {
-    let mut t = tape.mark(kinds, lens, table);
-    if t.no != 0 {
-        return t;
-    }
-    let c = t.rows;
-    t = stream(t, m, kinds, lens, table);
-    if t.no != 0 {
-        return t;
-    }
-    t.close_at(c, TOKEN_STREAM, kinds, lens, table)
+    let c = p.mark()?;
+    stream(p, m)?;
+    p.close_at(c, TOKEN_STREAM)
 }
 
 // attributes (253), inner_attributes (234): the tokens of one, if its `[` is there.
-fn attribute_stream(tape: Tape, kinds: &[u8], lens: &[u32], table: &mut [u32]) -> Tape
-    requires { Ready tape kinds.now lens.now table.old }
-    ensures { Ran attribute_stream tt tape result kinds.now lens.now table.old table.new }
+fn attribute_stream(p: &mut Tape) -> Result<(), Refusal>
+    ensures { Ran attribute_stream result p.old p.new }
 {
-    let mut t = tape.bump_if(BRACKET, kinds, lens, table);
-    if t.no != 0 {
-        return t;
+    if p.bump_if(BRACKET)? {
+        token_stream(p, Matcher::Brackets)?;
+        p.bump()?;
     }
-    if t.ans == 1 {
-        t = token_stream(t, Matcher::Brackets, kinds, lens, table);
-        if t.no != 0 {
-            return t;
-        }
-        return t.bump(kinds, lens, table);
-    }
-    t
+    Ok(())
 }
 
 // inner_attributes (234): a turn of its loop.
-fn inner_attribute(tape: Tape, kinds: &[u8], lens: &[u32], table: &mut [u32]) -> Tape
-    requires { Ready tape kinds.now lens.now table.old }
-    ensures { Ran inner_attribute tt tape result kinds.now lens.now table.old table.new }
+fn inner_attribute(p: &mut Tape) -> Result<(), Refusal>
+    ensures { Ran inner_attribute result p.old p.new }
 {
-    let mut t = tape.mark(kinds, lens, table);
-    if t.no != 0 {
-        return t;
-    }
-    let c = t.rows;
-    t = t.bump(kinds, lens, table);
-    if t.no != 0 {
-        return t;
-    }
-    t = t.bump_if(BANG, kinds, lens, table);
-    if t.no != 0 {
-        return t;
-    }
-    t = attribute_stream(t, kinds, lens, table);
-    if t.no != 0 {
-        return t;
-    }
-    t.close_at(c, INNER_ATTRIBUTE, kinds, lens, table)
+    let c = p.mark()?;
+    p.bump()?;
+    p.bump_if(BANG)?;
+    attribute_stream(p)?;
+    p.close_at(c, INNER_ATTRIBUTE)
 }
 
 // inner_attributes (234).
-pub fn inner_attributes(tape: Tape, kinds: &[u8], lens: &[u32], table: &mut [u32]) -> Tape
-    requires { Ready tape kinds.now lens.now table.old }
-    ensures { Ran inner_attributes tt tape result kinds.now lens.now table.old table.new }
+pub fn inner_attributes(p: &mut Tape) -> Result<(), Refusal>
+    ensures { Ran inner_attributes result p.old p.new }
 {
-    let mut t = tape;
-    while kinds::classes::glues(POUND, BANG, t.peek(kinds), t.glued(kinds)) {
-        t = inner_attribute(t, kinds, lens, table);
-        if t.no != 0 {
-            return t;
-        }
+    while glues(POUND, BANG, p.peek(), p.glued()) {
+        inner_attribute(p)?;
     }
-    t
+    Ok(())
 }
 
 // attributes (253): a turn of its loop.
-fn attribute(tape: Tape, kinds: &[u8], lens: &[u32], table: &mut [u32]) -> Tape
-    requires { Ready tape kinds.now lens.now table.old }
-    ensures { Ran attribute_prog tt tape result kinds.now lens.now table.old table.new }
+fn attribute(p: &mut Tape) -> Result<(), Refusal>
+    ensures { Ran attribute_prog result p.old p.new }
 {
-    let mut t = tape.mark(kinds, lens, table);
-    if t.no != 0 {
-        return t;
-    }
-    let c = t.rows;
-    t = t.bump(kinds, lens, table);
-    if t.no != 0 {
-        return t;
-    }
-    t = attribute_stream(t, kinds, lens, table);
-    if t.no != 0 {
-        return t;
-    }
-    t.close_at(c, ATTRIBUTE, kinds, lens, table)
+    let c = p.mark()?;
+    p.bump()?;
+    attribute_stream(p)?;
+    p.close_at(c, ATTRIBUTE)
 }
 
 // attributes (253).
-pub fn attributes(tape: Tape, kinds: &[u8], lens: &[u32], table: &mut [u32]) -> Tape
-    requires { Ready tape kinds.now lens.now table.old }
-    ensures { Ran attributes_prog tt tape result kinds.now lens.now table.old table.new }
+pub fn attributes(p: &mut Tape) -> Result<(), Refusal>
+    ensures { Ran attributes_prog result p.old p.new }
 {
-    let mut t = tape;
-    while kinds::classes::glues(POUND, BRACKET, t.peek(kinds), t.glued(kinds)) {
-        t = attribute(t, kinds, lens, table);
-        if t.no != 0 {
-            return t;
-        }
+    while glues(POUND, BRACKET, p.peek(), p.glued()) {
+        attribute(p)?;
     }
-    t
+    Ok(())
 }
 
 // labels (746): a turn of its loop.
-fn label(tape: Tape, kinds: &[u8], lens: &[u32], table: &mut [u32]) -> Tape
-    requires { Ready tape kinds.now lens.now table.old }
-    ensures { Ran label_prog tt tape result kinds.now lens.now table.old table.new }
+fn label(p: &mut Tape) -> Result<(), Refusal>
+    ensures { Ran label_prog result p.old p.new }
 {
-    let t = tape.bump(kinds, lens, table);
-    if t.no != 0 {
-        return t;
-    }
-    t.bump_while(COLON, kinds, lens, table)
+    p.bump()?;
+    p.bump_while(COLON)?;
+    Ok(())
 }
 
 // labels (746).
-pub fn labels(tape: Tape, kinds: &[u8], lens: &[u32], table: &mut [u32]) -> Tape
-    requires { Ready tape kinds.now lens.now table.old }
-    ensures { Ran labels_prog tt tape result kinds.now lens.now table.old table.new }
+pub fn labels(p: &mut Tape) -> Result<(), Refusal>
+    ensures { Ran labels_prog result p.old p.new }
 {
-    let mut t = tape;
-    while t.peek(kinds) == LABEL {
-        t = label(t, kinds, lens, table);
-        if t.no != 0 {
-            return t;
-        }
+    while p.peek() == LABEL {
+        label(p)?;
     }
-    t
+    Ok(())
 }

@@ -1,40 +1,39 @@
 -- The input, a byte at a time: each of its lines is a case.
 -- Assumes nothing.
-use Rattle.std.specs.Prelude.{ℕ, ◌+◌, ◌≤◌, ◌<◌, ◌≡◌, refl, Bool, cond, length, get_or, take}
-use Rattle.std.proofs.Common.{sym, ap, ◌∙◌, arith, drop-cons}
+use Rattle.std.specs.Prelude.{ℕ, ◌+◌, ◌≤◌, ◌<◌, ◌≡◌, refl, Bool, cond, Option, Some, length, get_or, take}
+use Rattle.std.proofs.Common.{sym, ◌∙◌, arith, drop-cons}
 use Rattle.std.proofs.Math.Bool.{true, false}
 use mathlib.Core.List.{List, [], ◌∷◌}
 use Rattle.std.proofs.Math.Numerals.{add-one}
 use Rattle.std.proofs.Math.Dec.{eqb}
 use Rattle.std.proofs.Math.ListN.{drop, drop_of_length-le}
-use borrow.Author.Tests.{eq-eqb, ne_eqb, eqb-true}
+use borrow.Author.Tests.{eq-eqb, ne_eqb}
 use Rattle.text.specs.declared.Reading.{Reading}
-use Rattle.text.specs.declared.Reading.TheVariants.{Before, Within, Broken}
-use Rattle.text.specs.declared.Listed.TheVariants.{Numbers}
+use Rattle.text.specs.declared.Reading.TheVariants.{Before}
 use Rattle.text.specs.Line.{stepped, stored, kept, ended}
 use Rattle.replay.specs.declared.Place.{Place}
-use Rattle.replay.specs.declared.Tally.{Tally}
-use Rattle.replay.specs.Case.{Case, Decides, says_no}
+use Rattle.replay.specs.declared.tally.Tally.{Tally}
+use Rattle.replay.specs.Case.{Case}
 
 -- where the reading stands behind a byte, and what the room for numbers holds: 10 ends a line
-unfoldable pub read_on : Reading → List ℕ → ℕ → Reading
-read_on r ns b = cond (eqb b 10) (Before 0) (stepped r (length ns) b)
+unfoldable pub read_on : Option Reading → List ℕ → ℕ → Option Reading
+read_on r ns b = cond (eqb b 10) (Some (Before 0)) (stepped r (length ns) b)
 
-unfoldable pub room_on : Reading → List ℕ → ℕ → List ℕ
+unfoldable pub room_on : Option Reading → List ℕ → ℕ → List ℕ
 room_on r ns b = cond (eqb b 10) (kept r ns) (stored r ns b)
 
-unfoldable pub read_all : List ℕ → Reading → List ℕ → Reading × List ℕ
+unfoldable pub read_all : List ℕ → Option Reading → List ℕ → Option Reading × List ℕ
 read_all [] r ns = (r, ns)
 read_all (b ∷ l) r ns = read_all l (read_on r ns b) (room_on r ns b)
 
 -- the line that is read, if it ends here, is a case that holds
-pub record LineHolds (r : Reading) (ns : List ℕ) : Type 0 where
+pub record LineHolds (r : Option Reading) (ns : List ℕ) : Type 0 where
   pub count : ℕ
-  pub lists : ended r (length ns) ≡ Numbers count
+  pub lists : ended r (length ns) ≡ Some count
   pub case : Case (take count (kept r ns))
 
 -- each line that ends within the bytes is one
-unfoldable pub Holding : List ℕ → Reading → List ℕ → Type 0
+unfoldable pub Holding : List ℕ → Option Reading → List ℕ → Type 0
 Holding [] r ns = Unit {0}
 Holding (b ∷ l) r ns = (b ≡ 10 → LineHolds r ns) × Holding l (read_on r ns b) (room_on r ns b)
 
@@ -44,7 +43,6 @@ pub record Stepped (p : Place) (b : ℕ) (ns : List ℕ) (q : Place) (ns' : List
   pub reading_is : q.reading ≡ read_on p.reading ns b
   pub room_is : ns' ≡ room_on p.reading ns b
   pub cases_are : q.tally.cases ≡ p.tally.cases + cond (eqb b 10) 1 0
-  pub ordered : q.tally.differ ≤ q.tally.cases
   pub grows : p.tally.differ ≤ q.tally.differ
   pub holds : q.tally.differ ≡ p.tally.differ → b ≡ 10 → LineHolds p.reading ns
 
@@ -52,7 +50,6 @@ pub record Stepped (p : Place) (b : ℕ) (ns : List ℕ) (q : Place) (ns' : List
 pub record Fed (p : Place) (bytes ns : List ℕ) (q : Place) (ns' : List ℕ) : Type 0 where
   pub stands : (q.reading, ns') ≡ read_all bytes p.reading ns
   pub few : q.tally.cases ≤ p.tally.cases + length bytes
-  pub ordered : q.tally.differ ≤ q.tally.cases
   pub grows : p.tally.differ ≤ q.tally.differ
   pub holding : q.tally.differ ≡ p.tally.differ → Holding bytes p.reading ns
 
@@ -68,84 +65,63 @@ grown true d = omega arith
 grown false d = omega arith
 
 module _ (p : Place) (ns : List ℕ) {ns' : List ℕ} where
-  pub byte_on : {b : ℕ} {r : Reading} → (b ≡ 10 → ⊥) → p.tally.differ ≤ p.tally.cases → (r ≡ stepped p.reading (length ns) b) × (ns' ≡ stored p.reading ns b) →
+  pub byte_on : {b : ℕ} {r : Option Reading} → (b ≡ 10 → ⊥) → (r ≡ stepped p.reading (length ns) b) × (ns' ≡ stored p.reading ns b) →
       Stepped p b ns record { reading = r; tally = p.tally } ns'
   unfolding read_on room_on
-  byte_on {b} other h (e, f) =
+  byte_on {b} other (e, f) =
       let x : eqb b 10 ≡ false = ne_eqb b 10 other in
       record {
         reading_is = e ∙ rw x;
         room_is = f ∙ rw x;
         cases_are = rw x (omega arith);
-        ordered = h;
         grows = omega arith;
         holds = λ d is. absurd (other is);
       }
 
   module _ (t : Tally) {same : Bool} (l : (same ≡ true → LineHolds p.reading ns) × (ns' ≡ kept p.reading ns))
-      (k : (t.differ ≤ t.cases) × ((t.cases ≡ p.tally.cases + 1) × (t.differ ≡ p.tally.differ + cond same 0 1)))
+      (k : (t.cases ≡ p.tally.cases + 1) × (t.differ ≡ p.tally.differ + cond same 0 1))
     where
       pub line_counted : t.differ ≡ p.tally.differ → LineHolds p.reading ns
-      line_counted d = l.0 (unchanged same (sym k.1.1 ∙ d))
+      line_counted d = l.0 (unchanged same (sym k.1 ∙ d))
 
-      pub line_on : {b : ℕ} → b ≡ 10 → Stepped p b ns record { reading = Before 0; tally = t } ns'
+      pub line_on : {b : ℕ} → b ≡ 10 → Stepped p b ns record { reading = Some (Before 0); tally = t } ns'
       unfolding read_on room_on
       line_on {b} is =
           let x : eqb b 10 ≡ true = eq-eqb b 10 is in
           record {
             reading_is = rw x;
             room_is = l.1 ∙ rw x;
-            cases_are = rw x k.1.0;
-            ordered = k.0;
-            grows = omega (arith, grown same p.tally.differ, k.1.1);
+            cases_are = rw x k.0;
+            grows = omega (arith, grown same p.tally.differ, k.1);
             holds = λ d _. line_counted d;
           }
-
--- ## The input's end
-
-pub start_before : {r : Reading} {n : ℕ} → r ≡ Before n → Decides (eqb n 0) (r ≡ Before 0)
-start_before {r} {n} is =
-    record {
-      yes = λ e. is ∙ ap Before (eqb-true n 0 e);
-      no = λ e. let x : Before n ≡ Before 0 = sym is ∙ e in let y : n ≡ 0 = cc in eq-eqb n 0 y;
-    }
-
-pub start_within : {r : Reading} {n v : ℕ} → r ≡ Within n v → Decides false (r ≡ Before 0)
-start_within {r} {n} {v} is = says_no (λ e. let x : Within n v ≡ Before 0 = sym is ∙ e in let y : ◌≡◌ {A = ℕ} 0 1 = cc in omega arith)
-
-pub start_broken : {r : Reading} → r ≡ Broken → Decides false (r ≡ Before 0)
-start_broken is = says_no (λ e. let x : Broken ≡ Before 0 = sym is ∙ e in let y : ◌≡◌ {A = ℕ} 0 1 = cc in omega arith)
 
 -- ## The loop
 
 -- the piece is read up to the byte i
 pub record Upto (p : Place) (bytes ns₀ : List ℕ) (q : Place) (ns : List ℕ) (i : ℕ) : Type 0 where
   pub within : i ≤ length bytes
-  pub room : length ns ≡ length ns₀
   pub stands : read_all (drop i bytes) q.reading ns ≡ read_all bytes p.reading ns₀
   pub few : q.tally.cases ≤ p.tally.cases + i
-  pub ordered : q.tally.differ ≤ q.tally.cases
   pub grows : p.tally.differ ≤ q.tally.differ
   pub holding : Holding (drop i bytes) q.reading ns → q.tally.differ ≡ p.tally.differ → Holding bytes p.reading ns₀
 
-pub upto_start : (p : Place) (bytes ns : List ℕ) → p.tally.differ ≤ p.tally.cases → Upto p bytes ns p ns 0
-upto_start p bytes ns h =
-    record { within = omega arith; room = refl; stands = refl; few = omega arith; ordered = h; grows = omega arith; holding = λ k e. k }
+pub upto_start : (p : Place) (bytes ns : List ℕ) → Upto p bytes ns p ns 0
+upto_start p bytes ns =
+    record { within = omega arith; stands = refl; few = omega arith; grows = omega arith; holding = λ k e. k }
 
 one : (t : Bool) → cond t 1 0 ≤ 1
 one true = omega arith
 one false = omega arith
 
 module _ {p : Place} {bytes ns₀ : List ℕ} {q : Place} {ns : List ℕ} {i : ℕ} (u : Upto p bytes ns₀ q ns i) where
-  pub upto_go : {q' : Place} {ns' : List ℕ} → i < length bytes → length ns' ≡ length ns → Stepped q (get_or bytes i 0) ns q' ns' → Upto p bytes ns₀ q' ns' (i + 1)
+  pub upto_go : {q' : Place} {ns' : List ℕ} → i < length bytes → Stepped q (get_or bytes i 0) ns q' ns' → Upto p bytes ns₀ q' ns' (i + 1)
   unfolding read_all Holding
-  upto_go {q'} {ns'} h l s =
+  upto_go {q'} {ns'} h s =
       record {
         within = omega arith;
-        room = l ∙ u.room;
         stands = rw (s.reading_is, s.room_is, add-one i) (rw (drop-cons bytes i 0 h) at u.stands);
         few = omega (arith, s.cases_are, one (eqb (get_or bytes i 0) 10));
-        ordered = s.ordered;
         grows = omega (arith, s.grows);
         holding = λ k e. u.holding (rw (drop-cons bytes i 0 h) (s.holds (omega (arith, s.grows)), rw (s.reading_is, s.room_is, add-one i) at k)) (omega (arith, s.grows));
       }
@@ -157,7 +133,6 @@ module _ {p : Place} {bytes ns₀ : List ℕ} {q : Place} {ns : List ℕ} {i : �
       record {
         stands = rw e at u.stands;
         few = omega arith;
-        ordered = u.ordered;
         grows = u.grows;
         holding = λ d. u.holding (rw e tt) d;
       }

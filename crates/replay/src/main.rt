@@ -3,280 +3,168 @@
 #![tactic(auto)]
 
 mod case;
-mod table;
+mod tally;
 mod wanted;
 
-ghost use Rattle.std.specs.Prelude.{◌≡◌, true, cond, ◌+◌, ◌≤◌, ◌<◌, length, IfOk, OnErr};
+ghost use Rattle.std.specs.Prelude.{◌≡◌, true, ◌+◌, ◌≤◌, ◌<◌, ◌^◌, length, Some, IfOk, OnErr};
+ghost use Rattle.std.specs.ControlFlow.{MatchControlFlow};
 ghost use Rattle.text.specs.Written.{Grows, Shrinks};
 ghost use Rattle.text.specs.declared.Reading.TheVariants.{Before};
 ghost use Rattle.text.specs.Line.{kept};
 ghost use Rattle.replay.specs.Case.{Decides};
 ghost use Rattle.replay.specs.Input.{LineHolds, Stepped, Fed};
 
-use case::judge;
+use case::Scratch;
 use std::io;
 use std::io::{Read, Write};
-use text::{Listed, Reading, put, put_number, read_full};
+use std::ops::ControlFlow;
+use tally::Tally;
+use text::{Reading, put, put_number, read_full};
 
-// How many cases there were, how many differ, and the line of the first that does (0: none).
-#[derive(Clone, Copy)]
-struct Tally {
-    cases: usize,
-    differ: usize,
-    first: usize,
-}
-
-// How far the input is read: where in a line, and what the lines before it came to.
+// How far the input is read: where in a line (`None` in one that is no list of numbers), and what the lines before it came to.
 #[derive(Clone, Copy)]
 struct Place {
-    reading: Reading,
+    reading: Option<Reading>,
     tally: Tally,
 }
 
-// A place, and whether the input may go on behind it.
-#[derive(Clone, Copy)]
-struct Turn {
-    place: Place,
-    more: bool,
-}
-
-// The tally of the whole input, or of the part of it that is read at most.
-#[derive(Clone, Copy)]
-struct Whole {
-    tally: Tally,
-    whole: bool,
+// Room for the numbers of the longest line, and for a case. Fixed, since the program has no heap.
+#[derive(Drop)]
+struct Room {
+    numbers: [u32; 131328],
+    scratch: Scratch,
 }
 
 // How many pieces of 4,096 bytes are read at most.
 const PIECES: usize = 1048576;
 
-// The end of a line: whether its numbers are a case that holds. A line that is no list of numbers is none.
-fn line(
-    r: Reading,
-    numbers: &mut [u32],
-    kinds: &mut [u8],
-    table: &mut [u32],
-    wanted: &mut [u32],
-) -> bool
-    ensures { (result ≡ true → LineHolds r numbers.old) × (numbers.new ≡ kept r numbers.old) }
-{
-    let Listed::Numbers(n) = text::end(r, numbers) else {
-        return false;
-    };
-    judge(&numbers[..n], kinds, table, wanted)
-}
+impl Room {
+    fn new() -> Self {
+        Room {
+            numbers: [0; 131328],
+            scratch: Scratch::new(),
+        }
+    }
 
-// One case more, which is the same or differs.
-fn counted(t: Tally, same: bool) -> Tally
-    requires { (t.differ ≤ t.cases) × (t.cases < 9223372036854775808) }
-    ensures { (result.differ ≤ result.cases) × ((result.cases ≡ t.cases + 1) × (result.differ ≡ t.differ + cond same 0 1)) }
-{
-    let cases = t.cases + 1;
-    if same {
-        return Tally {
-            cases,
-            differ: t.differ,
-            first: t.first,
+    // The end of a line: whether its numbers are a case that holds. A line that is no list of numbers is none.
+    fn line(&mut self, reading: Option<Reading>) -> bool
+        ensures { (result ≡ true → LineHolds reading self.old.numbers) × (self.new.numbers ≡ kept reading self.old.numbers) }
+    {
+        let Some(n) = text::end(reading, &mut self.numbers) else {
+            return false;
         };
+        self.scratch.judge(&self.numbers[..n])
     }
-    let differ = t.differ + 1;
-    if t.first == 0 {
-        return Tally {
-            cases,
-            differ,
-            first: cases,
-        };
-    }
-    Tally {
-        cases,
-        differ,
-        first: t.first,
-    }
-}
 
-// One byte more of the input.
-fn byte(
-    p: Place,
-    b: u8,
-    numbers: &mut [u32],
-    kinds: &mut [u8],
-    table: &mut [u32],
-    wanted: &mut [u32],
-) -> Place
-    requires { (p.tally.differ ≤ p.tally.cases) × (p.tally.cases < 9223372036854775808) }
-    ensures { Stepped p b numbers.old result numbers.new }
-{
-    let r = p.reading;
-    let t = p.tally;
-    if b != b'\n' {
-        let next = text::step(r, numbers, b);
-        return Place {
-            reading: next,
-            tally: t,
-        };
+    // One byte more of the input.
+    fn byte(&mut self, place: Place, byte: u8) -> Place
+        requires { place.tally.cases < 2 ^ 63 }
+        ensures { Stepped place byte self.old.numbers result self.new.numbers }
+    {
+        let Place { reading, tally } = place;
+        if byte != b'\n' {
+            let reading = text::step(reading, &mut self.numbers, byte);
+            return Place { reading, tally };
+        }
+        let holds = self.line(reading);
+        let tally = tally.counted(holds);
+        Place {
+            reading: Some(Reading::Before(0)),
+            tally,
+        }
     }
-    let same = line(r, numbers, kinds, table, wanted);
-    let tally = counted(t, same);
-    Place {
-        reading: Reading::Before(0),
-        tally,
-    }
-}
 
-// The bytes of a piece of the input, one after the other.
-fn piece(
-    p: Place,
-    bytes: &[u8],
-    numbers: &mut [u32],
-    kinds: &mut [u8],
-    table: &mut [u32],
-    wanted: &mut [u32],
-) -> Place
-    requires { (p.tally.differ ≤ p.tally.cases) × (p.tally.cases + length bytes.now < 9223372036854775808) }
-    ensures { Fed p bytes.now numbers.old result numbers.new }
-{
-    let mut q = p;
-    let mut i = 0;
-    while i < bytes.len() {
-        q = byte(q, bytes[i], numbers, kinds, table, wanted);
-        i += 1;
+    // The bytes of a piece of the input, one after the other.
+    fn piece(&mut self, place: Place, bytes: &[u8]) -> Place
+        requires { place.tally.cases + length bytes.now < 2 ^ 63 }
+        ensures { Fed place bytes.now self.old.numbers result self.new.numbers }
+    {
+        let mut place = place;
+        for byte in bytes {
+            place = self.byte(place, *byte);
+        }
+        place
     }
-    q
-}
 
-// One piece more of the input. One that is short is the last. (No contract can say which bytes standard input gives.)
-fn read_piece<R: Read>(
-    input: &mut R,
-    p: Place,
-    numbers: &mut [u32],
-    kinds: &mut [u8],
-    table: &mut [u32],
-    wanted: &mut [u32],
-) -> io::Result<Turn>
-    requires { (p.tally.differ ≤ p.tally.cases) × (p.tally.cases < 4611686018427387904) }
-    ensures ok { IfOk result (λ t. (t.place.tally.differ ≤ t.place.tally.cases) × (t.place.tally.cases ≤ p.tally.cases + 4096)) }
-    ensures err { OnErr result ((numbers.new ≡ numbers.old) × (kinds.new ≡ kinds.old) × (table.new ≡ table.old) × (wanted.new ≡ wanted.old)) }
-    ensures shrinks { Shrinks (R.remaining input.old) (R.remaining input.new) }
-{
-    let mut buffer = [0u8; 4096];
-    let n = read_full(input, &mut buffer)?;
-    let place = piece(p, &buffer[..n], numbers, kinds, table, wanted);
-    Ok(Turn {
-        place,
-        more: n == 4096,
-    })
+    // One piece more of the input. One that is short is the last. (No contract can say which bytes standard input gives.)
+    fn read_piece<R: Read>(
+        &mut self,
+        input: &mut R,
+        place: Place,
+    ) -> io::Result<ControlFlow<Place, Place>>
+        requires { place.tally.cases < 2 ^ 62 }
+        ensures ok { IfOk result (λ turn. MatchControlFlow turn (λ p. p.tally.cases ≤ place.tally.cases + 4096) (λ p. p.tally.cases ≤ place.tally.cases + 4096)) }
+        ensures err { OnErr result (self.new ≡ self.old) }
+        ensures shrinks { Shrinks (R.remaining input.old) (R.remaining input.new) }
+    {
+        let mut buffer = [0u8; 4096];
+        let n = read_full(input, &mut buffer)?;
+        let place = self.piece(place, &buffer[..n]);
+        if n < buffer.len() {
+            return Ok(ControlFlow::Break(place));
+        }
+        Ok(ControlFlow::Continue(place))
+    }
+
+    // The input's end: its last line, where no line end stands behind that.
+    fn last(&mut self, place: Place) -> Tally
+        requires { place.tally.cases < 2 ^ 63 }
+        ensures { result.differ ≡ place.tally.differ → (place.reading ≡ Some (Before 0) → ⊥) → LineHolds place.reading self.old.numbers }
+    {
+        if at_start(place.reading) {
+            return place.tally;
+        }
+        let holds = self.line(place.reading);
+        place.tally.counted(holds)
+    }
 }
 
 // Whether no byte of a line is read yet.
-fn at_start(r: Reading) -> bool
-    ensures { Decides result (r ≡ Before 0) }
+fn at_start(reading: Option<Reading>) -> bool
+    ensures { Decides result (reading ≡ Some (Before 0)) }
 {
-    match r {
-        Reading::Before(n) => n == 0,
-        Reading::Within(_, _) => false,
-        Reading::Broken => false,
-    }
+    matches!(reading, Some(Reading::Before(0)))
 }
 
-// The input's end: its last line, where no line end stands behind that.
-fn last(
-    p: Place,
-    numbers: &mut [u32],
-    kinds: &mut [u8],
-    table: &mut [u32],
-    wanted: &mut [u32],
-) -> Tally
-    requires { (p.tally.differ ≤ p.tally.cases) × (p.tally.cases < 9223372036854775808) }
-    ensures { (result.differ ≤ result.cases) × (result.differ ≡ p.tally.differ → (p.reading ≡ Before 0 → ⊥) → LineHolds p.reading numbers.old) }
-{
-    let r = p.reading;
-    let t = p.tally;
-    if at_start(r) {
-        return t;
-    }
-    let same = line(r, numbers, kinds, table, wanted);
-    counted(t, same)
-}
-
-fn replay<R: Read>(
-    input: &mut R,
-    numbers: &mut [u32],
-    kinds: &mut [u8],
-    table: &mut [u32],
-    wanted: &mut [u32],
-) -> io::Result<Whole>
-    ensures ok { IfOk result (λ w. w.tally.differ ≤ w.tally.cases) }
+// The tally of the whole input, or `None` where it is too long to be read whole.
+fn replay<R: Read>(input: &mut R, room: &mut Room) -> io::Result<Option<Tally>>
     ensures shrinks { Shrinks (R.remaining input.old) (R.remaining input.new) }
 {
-    let none = Tally {
-        cases: 0,
-        differ: 0,
-        first: 0,
+    let mut place = Place {
+        reading: Some(Reading::Before(0)),
+        tally: Tally::new(),
     };
-    let mut p = Place {
-        reading: Reading::Before(0),
-        tally: none,
-    };
-    let mut left = PIECES;
-    while left > 0 {
-        let t = read_piece(input, p, numbers, kinds, table, wanted)?;
-        p = t.place;
-        if !t.more {
-            let tally = last(p, numbers, kinds, table, wanted);
-            return Ok(Whole { tally, whole: true });
+    for _ in 0..PIECES {
+        match room.read_piece(input, place)? {
+            ControlFlow::Continue(next) => place = next,
+            ControlFlow::Break(end) => return Ok(Some(room.last(end))),
         }
-        left -= 1;
     }
-    let tally = p.tally;
-    Ok(Whole {
-        tally,
-        whole: false,
-    })
+    Ok(None)
 }
 
-fn show<W: Write>(out: &mut W, t: Tally) -> io::Result<()>
+// (By `put` and not by `write!`, which says nothing of what an error leaves in the writer.)
+fn show<W: Write>(out: &mut W, tally: Tally) -> io::Result<()>
     ensures grows { Grows (W.contents out.old) (W.contents out.new) }
 {
-    put_number(out, t.cases as u64)?;
+    put_number(out, tally.cases as u64)?;
     put(out, b" cases, ")?;
-    put_number(out, t.differ as u64)?;
+    put_number(out, tally.differ as u64)?;
     put(out, b" differ")?;
-    if t.first == 0 {
+    let Some(line) = tally.first else {
         return put(out, b"\n");
-    }
+    };
     put(out, b", the first on line ")?;
-    put_number(out, t.first as u64)?;
+    put_number(out, line as u64)?;
     put(out, b"\n")
 }
 
-// Room for the numbers of the longest line, and for a table. (The contracts tell the lengths alone, which is all that lending needs.)
-fn line_room() -> [u32; 131328]
-    ensures { 131328 ≡ length result }
-{
-    [0; 131328]
-}
-
-fn table_room() -> [u32; 1024]
-    ensures { 1024 ≡ length result }
-{
-    [0; 1024]
-}
-
 fn main(rt: HostRuntime) -> io::Result<()> {
-    let mut numbers = line_room();
-    let mut kinds = [0u8; 65536];
-    let mut table = table_room();
-    let mut wanted = table_room();
-    let w = replay(
-        &mut rt.stdin(),
-        &mut numbers,
-        &mut kinds,
-        &mut table,
-        &mut wanted,
-    )?;
+    let mut room = Room::new();
+    let tally = replay(&mut rt.stdin(), &mut room)?;
     let mut out = rt.stdout();
-    if !w.whole {
-        return put(&mut out, b"the list is too long to be read whole\n");
+    match tally {
+        Some(tally) => show(&mut out, tally),
+        None => put(&mut out, b"the list is too long to be read whole\n"),
     }
-    show(&mut out, w.tally)
 }

@@ -1,14 +1,8 @@
 // The rows that a case's answer stands for. The list has them as a shape: for each row 0 for a leaf, or kind and back for a node. The leaves are
 // the tokens in order; a node starts where the first row of its subtree does, or with back 0 where the next leaf would, and ends where the last leaf did.
-ghost use Rattle.std.specs.Prelude.{◌≡◌, ◌+◌, ◌-◌, ◌*◌, ◌≤◌, length};
+// (A row's place in the lent table is asked of whoever writes it: it is no fact of the table alone.)
+ghost use Rattle.std.specs.Prelude.{◌≡◌, ◌+◌, ◌*◌, ◌≤◌, length};
 ghost use Rattle.replay.specs.Wanted.{row_put, start_of, node_put, rows_of};
-
-// What `rows` answers: so many rows, or that the shape is none, has too few tokens, or has more rows or bytes than fit.
-#[derive(Clone, Copy)]
-pub enum Wanted {
-    Rows(usize),
-    Broken,
-}
 
 #[tactic(auto, unfolding(crate::specs::Wanted::row_put))]
 fn put(out: &mut [u32], row: usize, kind: u32, back: u32, start: u32, len: u32)
@@ -35,66 +29,43 @@ fn start(out: &[u32], row: usize, back: u32, byte: u32) -> u32
     out[4 * first + 2]
 }
 
-// a - b, and 0 where that is less.
-fn less(a: u32, b: u32) -> u32
-    ensures { result ≡ a - b }
-{
-    if a < b {
-        return 0;
-    }
-    a - b
-}
-
 #[tactic(auto, unfolding(crate::specs::Wanted::node_put))]
 fn node(out: &mut [u32], row: usize, kind: u32, back: u32, byte: u32)
     requires { (4 * row + 4 ≤ length out.old) × (back ≤ row) }
     ensures { out.new ≡ node_put out.old row kind back byte }
 {
     let from = start(out, row, back, byte);
-    put(out, row, kind, back, from, less(byte, from));
+    put(out, row, kind, back, from, byte.saturating_sub(from));
 }
 
-// Writes the rows of a shape to the front of `out`, up to the first that is none.
-pub fn rows(shape: &[u32], kinds: &[u8], lens: &[u32], out: &mut [u32]) -> Wanted
+// Writes the rows of a shape to the front of `out`, up to the first that is none, and tells how many there are: `None` where the shape is none, has too
+// few tokens, or has more rows or bytes than fit.
+pub fn rows(shape: &[u32], kinds: &[u8], lens: &[u32], out: &mut [u32]) -> Option<usize>
     ensures { (result, out.new) ≡ rows_of shape.now kinds.now lens.now out.old }
 {
-    let mut at = 0;
-    let mut token = 0;
+    let (mut shape, mut kinds, mut lens) = (shape, kinds, lens);
     let mut byte: u32 = 0;
     let mut row = 0;
-    while at < shape.len() {
+    while let Some((kind, rest)) = shape.split_first() {
         if row >= out.len() / 4 {
-            return Wanted::Broken;
+            return None;
         }
-        let kind = shape[at];
-        if kind == 0 {
-            if token >= kinds.len() {
-                return Wanted::Broken;
-            }
-            if token >= lens.len() {
-                return Wanted::Broken;
-            }
-            let len = lens[token];
-            if len > 4294967295 - byte {
-                return Wanted::Broken;
-            }
-            put(out, row, kinds[token] as u32, 0, byte, len);
-            byte += len;
-            token += 1;
-            at += 1;
-            row += 1;
+        if *kind == 0 {
+            let (token, later_kinds) = kinds.split_first()?;
+            let (len, later_lens) = lens.split_first()?;
+            let end = byte.checked_add(*len)?;
+            put(out, row, u32::from(*token), 0, byte, *len);
+            byte = end;
+            (shape, kinds, lens) = (rest, later_kinds, later_lens);
         } else {
-            if shape.len() - at < 2 {
-                return Wanted::Broken;
+            let (back, rest) = rest.split_first()?;
+            if *back as usize > row {
+                return None;
             }
-            let back = shape[at + 1];
-            if back as usize > row {
-                return Wanted::Broken;
-            }
-            node(out, row, kind, back, byte);
-            at += 2;
-            row += 1;
+            node(out, row, *kind, *back, byte);
+            shape = rest;
         }
+        row += 1;
     }
-    Wanted::Rows(row)
+    Some(row)
 }

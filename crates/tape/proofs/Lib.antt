@@ -1,1 +1,3 @@
-pub mod Writes
+mod Glued
+mod Starts
+mod Writes

@@ -1,113 +1,93 @@
 -- The counted rules: one entry less for the body, and as many as before on the way out. And progress, as the code's loops cite it.
 -- Assumes nothing.
-use Rattle.std.specs.Prelude.{ℕ, zero, suc, ◌+◌, ◌-◌, ◌≡◌, refl, Bool, true, false, cond, List, length, drop, get_or, eqb}
+use Rattle.std.specs.Prelude.{ℕ, suc, ◌+◌, ◌≡◌, refl, Bool, true, false, cond, length, drop, get_or, eqb, Result, Ok, Err}
 use Rattle.std.proofs.Math.Path.{ap, subst, sym}
 use Rattle.std.proofs.Common.{◌∙◌, arith}
 use Rattle.definition.specs.Kinds.{Eof}
-use Rattle.definition.specs.Tape.{In, State, Out, refused, nth_kind, nth_at, glued_kind, glued_at, here_at}
+use Rattle.definition.specs.Tape.{In, State, Out, nth_kind, nth_at, glued_kind, glued_at, here_at}
 use Rattle.definition.specs.Prog.{Prog, done, seq, enter, Rule, eval, call}
 use Rattle.definition.specs.Grammar.{grammar}
 use Rattle.definition.specs.Parse.{run}
 use Rattle.laws.specs.Kept.{After}
 use Rattle.laws.specs.Looking.{skipped}
 use Rattle.laws.specs.Progress.{Further}
-use Rattle.tape.specs.View.{in_of, state_of, rows_in, said, Ready, Step}
-use Rattle.tape.specs.Steps.{stopped, step_ok, step_went, refusing, refused_tape, Onward, both, cut, nothing}
+use Rattle.tape.specs.View.{given, state_of, Step, Enters, Leaves}
+use Rattle.tape.specs.Steps.{same_on, same_given, step_went, Onward, both, cut, nothing, nothing_as}
+use Rattle.tape.specs.declared.refusal.Refusal.{Refusal}
 use Rattle.tape.specs.declared.Tape.{Tape}
 
--- the tape with n entries left
-abbrev pub depth : ℕ → Tape → Tape
-depth n t = record { at = t.at; next = t.next; second = t.second; rows = t.rows; byte = t.byte; left = n; no = t.no; ans = t.ans }
-
-pub deep : {n : ℕ} {t : Tape} {ks ls tab : List ℕ} → Ready t ks ls tab → Ready (depth n t) ks ls tab
-deep g =
-    record {
-      going = g.going;
-      sized = g.sized;
-      looks = record { end = g.looks.end; few = g.looks.few; next = g.looks.next; second = g.looks.second };
-      fits = g.fits;
-    }
-
-enter_is : (m : ℕ) (ks ls : List ℕ) (t : Tape) (tab : List ℕ) (q : Rule) (d : ℕ) → t.left ≡ suc d →
-    run (in_of ks ls tab) t.left m (enter q) (state_of t tab) ≡ run (in_of ks ls tab) d (length (rows_in t.rows tab)) (grammar q) (state_of t tab)
+-- the body of a rule runs with one entry less, from the state that the rule is entered in
+enter_is : (m : ℕ) (t u : Tape) (q : Rule) {n : ℕ} → Enters (Ok n) t u →
+    run (given u) u.left (length (state_of u).out) (grammar q) (state_of u) ≡ run (given t) t.left m (enter q) (state_of t)
 unfolding run eval call
-enter_is m ks ls t tab q d e = rw e
+enter_is m t u q w =
+    rw (w.some.1, same_given w.same) (ap (λ (s : State). eval (given t) (call grammar (given t) u.left) (length s.out) (grammar q) s) w.state)
 
-module _ {m : ℕ} {ks ls : List ℕ} {t : Tape} {tab : List ℕ} where
-  -- the rule's body with one entry less
-  pub entered : {q : Rule} {a : ℕ} {r : Tape} {tab' : List ℕ} → (t.left ≡ 0 → ⊥) →
-      Step (length (rows_in t.rows tab)) (grammar q) a (depth (t.left - 1) t) r ks ls tab tab' → Step m (enter q) a t (depth t.left r) ks ls tab tab'
-  entered {q = q} h w =
+module _ {m : ℕ} {t u : Tape} {q : Rule} where
+  -- the rule's body, and the entry given back
+  pub entered : {n : ℕ} {o : Result ℕ Refusal} {v r : Tape} → Enters (Ok n) t u → Step (length (state_of u).out) (grammar q) o u v → Leaves n v r → Step m (enter q) o t r
+  entered {o = o} w s l =
       record {
-        is = w.is ∙ sym (enter_is m ks ls t tab q (t.left - 1) (omega arith));
-        ready = λ z. deep (w.ready z);
-        len = w.len;
-        left = refl;
+        is = rw l.state (s.is ∙ enter_is m t u q w);
+        kept = record { same = same_on (same_on w.same s.kept.same) l.same; left = l.left ∙ w.some.0 };
       }
 
   -- no entry is left
-  pub barred : {q : Rule} {a : ℕ} {r : Tape} → Ready t ks ls tab → t.left ≡ 0 → r ≡ refusing 10 t.next t → Step m (enter q) a t r ks ls tab tab
+  pub barred : {e : Refusal} → Enters (Err e) t u → Step m (enter q) (Err e) t u
   unfolding run eval call here_at skipped
-  barred {q = q} {a = a} {r = r} g h e =
-      let z : r.no ≡ 0 → ⊥ = refused_tape e (λ y. omega arith) in
+  barred w =
       record {
-        is = stopped r.no r.byte a (state_of r tab) z ∙
-            ((rw e) ∙ (ap (λ (x : ℕ). refused 10 x) g.looks.next ∙ ap (λ (x : ℕ). call grammar (in_of ks ls tab) x q (state_of t tab)) (sym h)));
-        ready = λ y. absurd (z y);
-        len = refl;
-        left = rw e;
+        is = rw (w.none.1.1.reason, w.none.1.1.place, w.none.0) refl;
+        kept = record { same = w.same; left = w.none.1.0 ∙ sym w.none.0 };
       }
 
+  -- a rule whose answer goes out as a number, which is read back
+  pub entered_as : {A : Type 0} {body : Prog A} (f : A → ℕ) (g : ℕ → A) {n : ℕ} {o : Result A Refusal} {v r : Tape} → ((a : A) → g (f a) ≡ a) →
+      grammar q ≡ seq body (λ a. done (f a)) → Enters (Ok n) t u → Step (length (state_of u).out) body o u v → Leaves n v r →
+      Step m (seq (enter q) (λ n. done (g n))) o t r
+  entered_as {A} {body} f g {n} {o} {v} {r} back e w s l = go o s
+    where
+      inner : {x : Result ℕ Refusal} → Step (length (state_of u).out) (seq body (λ a. done (f a))) x u v → Step m (enter q) x t r
+      inner {x} z = entered w (subst (λ (p : Prog ℕ). Step (length (state_of u).out) p x u v) (sym e) z) l
+
+      go : (x : Result A Refusal) → Step (length (state_of u).out) body x u v → Step m (seq (enter q) (λ n. done (g n))) x t r
+      go (Ok a) z = both (inner (both z nothing)) (nothing_as (back a))
+      go (Err d) z = cut (inner (cut z))
+
 -- a rule that answers yes or no
-pub entered_bool : {m : ℕ} {ks ls : List ℕ} {t : Tape} {tab : List ℕ} {q : Rule} {body : Prog Bool} {r : Tape} {tab' : List ℕ} →
-    grammar q ≡ seq body (λ b. done (cond b 1 0)) → (t.left ≡ 0 → ⊥) →
-    Step (length (rows_in t.rows tab)) body (said r) (depth (t.left - 1) t) r ks ls tab tab' →
-    Step m (seq (enter q) (λ n. done (eqb n 1))) (said r) t (depth t.left r) ks ls tab tab'
-entered_bool {m} {ks} {ls} {t} {tab} {q} {body} {r} {tab'} e h w = go r.no refl
-  where
-    yes_no : (b : Bool) → eqb (cond b 1 0) 1 ≡ b
-    yes_no true = refl
-    yes_no false = refl
-
-    inner : {a : ℕ} → Step (length (rows_in t.rows tab)) (seq body (λ b. done (cond b 1 0))) a (depth (t.left - 1) t) r ks ls tab tab' →
-        Step m (enter q) a t (depth t.left r) ks ls tab tab'
-    inner {a} v = entered h (subst (λ (p : Prog ℕ). Step (length (rows_in t.rows tab)) p a (depth (t.left - 1) t) r ks ls tab tab') (sym e) v)
-
-    go : (n : ℕ) → r.no ≡ n → Step m (seq (enter q) (λ n. done (eqb n 1))) (said r) t (depth t.left r) ks ls tab tab'
-    go zero z =
-        let v = inner (both w z (nothing (w.ready z))) in
-        subst (λ (b : Bool). Step m (seq (enter q) (λ n. done (eqb n 1))) b t (depth t.left r) ks ls tab tab') (yes_no (said r)) (both v z (nothing (v.ready z)))
-    go (suc n) z = cut {a = 0} (inner (cut w (λ y. omega arith))) (λ y. omega arith)
+pub yes_no : (b : Bool) → eqb (cond b 1 0) 1 ≡ b
+yes_no true = refl
+yes_no false = refl
 
 -- ## Progress
 
 -- a step that comes further
-module _ {A : Type 0} {m : ℕ} {p : Prog A} {a : A} {t r : Tape} {ks ls tab tab' : List ℕ} (w : Step m p a t r ks ls tab tab') (z : r.no ≡ 0) where
-  goes : After Further (state_of t tab) (run (in_of ks ls tab) t.left m p (state_of t tab)) → Onward t r
+module _ {A : Type 0} {m : ℕ} {p : Prog A} {a : A} {t r : Tape} (w : Step m p (Ok a) t r) where
+  pub goes : After Further (state_of t) (run (given t) t.left m p (state_of t)) → Onward t r
   unfolding Further
-  goes f = record { goes = subst (λ (o : Out A). After Further (state_of t tab) o) (step_ok w z) f }
+  goes f = record { goes = subst (λ (o : Out A). After Further (state_of t) o) (sym w.is) f }
 
   -- by a law that asks nothing; that a token is left; that the next kind is of a class; with the kind glued to it
   pub goes_on : ((i : In) (d n : ℕ) (s : State) → After Further s (run i d n p s)) → Onward t r
-  goes_on law = goes (law (in_of ks ls tab) t.left m (state_of t tab))
+  goes_on law = goes (law (given t) t.left m (state_of t))
 
-  module _ {k : ℕ} (e : k ≡ nth_kind 0 (drop t.at ks)) where
+  module _ {k : ℕ} (e : k ≡ nth_kind 0 (drop t.at t.kinds.now)) where
     pub goes_some : (k ≡ 0 → ⊥) → ((i : In) (d n : ℕ) (s : State) → (nth_at i 0 s ≡ Eof → ⊥) → After Further s (run i d n p s)) → Onward t r
     unfolding nth_at
-    goes_some h law = goes (law (in_of ks ls tab) t.left m (state_of t tab) (λ y. h (e ∙ y)))
+    goes_some h law = goes (law (given t) t.left m (state_of t) (λ y. h (e ∙ y)))
 
     pub goes_saw : (c : ℕ → Bool) → c k ≡ true → ((i : In) (d n : ℕ) (s : State) → c (nth_at i 0 s) ≡ true → After Further s (run i d n p s)) → Onward t r
     unfolding nth_at
-    goes_saw c h law = goes (law (in_of ks ls tab) t.left m (state_of t tab) (ap c (sym e) ∙ h))
+    goes_saw c h law = goes (law (given t) t.left m (state_of t) (ap c (sym e) ∙ h))
 
-    pub goes_glued : {g : ℕ} → g ≡ glued_kind (get_or ks (skipped t.at ks + 1) 0) → (c : ℕ → ℕ → Bool) → c k g ≡ true →
+    pub goes_glued : {g : ℕ} → g ≡ glued_kind (get_or t.kinds.now (skipped t.at t.kinds.now + 1) 0) → (c : ℕ → ℕ → Bool) → c k g ≡ true →
         ((i : In) (d n : ℕ) (s : State) → c (nth_at i 0 s) (glued_at i s) ≡ true → After Further s (run i d n p s)) → Onward t r
     unfolding nth_at glued_at here_at skipped
     goes_glued {g = g} f c h law =
-        let q : glued_kind (get_or ks (suc (skipped t.at ks)) 0) ≡ g = ap (λ (x : ℕ). glued_kind (get_or ks x 0)) (omega arith) ∙ sym f in
-        goes (law (in_of ks ls tab) t.left m (state_of t tab)
-        (ap (λ (x : ℕ). c x (glued_kind (get_or ks (suc (skipped t.at ks)) 0))) (sym e) ∙ (ap (c k) q ∙ h)))
+        let q : glued_kind (get_or t.kinds.now (suc (skipped t.at t.kinds.now)) 0) ≡ g = ap (λ (x : ℕ). glued_kind (get_or t.kinds.now x 0)) (omega arith) ∙ sym f in
+        goes (law (given t) t.left m (state_of t)
+        (ap (λ (x : ℕ). c x (glued_kind (get_or t.kinds.now (suc (skipped t.at t.kinds.now)) 0))) (sym e) ∙ (ap (c k) q ∙ h)))
 
 -- what follows a step that came further
-pub and_on : {A : Type 0} {m : ℕ} {p : Prog A} {a : A} {t r x : Tape} {ks ls tab tab' : List ℕ} → Onward t r → Step m p a r x ks ls tab tab' → x.no ≡ 0 → Onward t x
-and_on h w z = record { goes = omega (arith, h.goes, (step_went w z).grows.at) }
+pub and_on : {A : Type 0} {m : ℕ} {p : Prog A} {a : A} {t r x : Tape} → Onward t r → Step m p (Ok a) r x → Onward t x
+and_on h w = record { goes = omega (arith, h.goes, (step_went w).grows.at) }

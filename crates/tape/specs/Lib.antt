@@ -1,3 +1,5 @@
+pub mod Numbers
+pub mod Ready
 pub mod View
 pub mod Rows
 pub mod Steps

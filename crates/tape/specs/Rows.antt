@@ -10,7 +10,7 @@ use Rattle.std.proofs.Math.Seq.{sets-eq, drop-append_seam}
 use Rattle.std.proofs.lemmas.List.{drop-append-le}
 use Rattle.definition.specs.Tape.{Row, elements, start_of}
 use Rattle.laws.specs.Sizes.{start_append}
-use Rattle.tape.specs.View.{row_at, rows_in}
+use Rattle.tape.specs.Ready.{row_at, rows_in}
 
 pub length_rows : (n : ℕ) (tab : List ℕ) → length (rows_in n tab) ≡ n
 unfolding rows_in

@@ -1,116 +1,99 @@
--- How the code's tape and table are read as a state of the definition, what every function asks, and what every function ensures.
+-- How a tape is read as a state of the definition, and what the functions that take one ensure.
 -- Assumes nothing.
-use Rattle.std.specs.Prelude.{ℕ, zero, suc, ◌+◌, ◌*◌, ◌≤◌, ◌≡◌, Bool, cond, List, [], ◌∷◌, ◌++◌, length, get_or, eqb}
-use Rattle.definition.specs.Tape.{In, Row, State, Out, ok, refused, width, capacity, leaf_at}
-use Rattle.definition.specs.Prog.{Prog}
+use Rattle.std.specs.Prelude.{ℕ, suc, ◌+◌, ◌≡◌, List, length, Result, Ok, Err, IfOk, IfErr}
+use Rattle.definition.specs.Tape.{In, State, Out, ok, refused, leaf_at}
+use Rattle.definition.specs.Prog.{Prog, flush}
 use Rattle.definition.specs.Parse.{run}
-use Rattle.laws.specs.Sizes.{total, Fits, Based}
+use Rattle.laws.specs.Sizes.{Based}
 use Rattle.laws.specs.Looking.{skipped}
+use Rattle.tape.specs.Numbers.{number_of}
+use Rattle.tape.specs.Ready.{rows_in, in_of}
+use Rattle.tape.specs.declared.refusal.Reason.{Reason}
+use Rattle.tape.specs.declared.refusal.Refusal.{Refusal}
 use Rattle.tape.specs.declared.Tape.{Tape}
 
 -- ## Reading
 
-abbrev pub in_of : List ℕ → List ℕ → List ℕ → In
-in_of ks ls tab = record { kinds = ks; lens = ls; cap = capacity (length tab) }
+abbrev pub given : Tape → In
+given t = in_of t.kinds.now t.lens.now t.table.now
 
--- row n of a table, and its first n rows
-abbrev pub row_at : ℕ → List ℕ → Row
-row_at n tab =
-    record {
-      kind = get_or tab (width * n) 0;
-      back = get_or tab (width * n + 1) 0;
-      start = get_or tab (width * n + 2) 0;
-      len = get_or tab (width * n + 3) 0;
-    }
+abbrev pub state_of : Tape → State
+state_of t = record { at = t.at; byte = t.byte; out = rows_in t.rows t.table.now }
 
-unfoldable pub rows_in : ℕ → List ℕ → List Row
-rows_in zero tab = []
-rows_in (suc n) tab = rows_in n tab ++ (row_at n tab ∷ [])
+-- what a call answers, and the state that it leaves
+abbrev pub out_of : {A : Type 0} → Result A Refusal → State → Out A
+out_of (Ok a) s = ok a s
+out_of (Err e) s = refused (number_of e.reason) e.place
 
-abbrev pub state_of : Tape → List ℕ → State
-state_of t tab = record { at = t.at; byte = t.byte; out = rows_in t.rows tab }
-
--- a number other than 0 is a refusal, and its place stands where the byte position stood
-unfoldable pub pick_out : {A : Type 0} → ℕ → ℕ → A → State → Out A
-pick_out zero pl a s = ok a s
-pick_out (suc n) pl a s = refused (suc n) pl
-
-abbrev pub out_of : {A : Type 0} → A → Tape → List ℕ → Out A
-out_of a t tab = pick_out t.no t.byte a (state_of t tab)
-
--- an answer of yes or no
-abbrev pub said : Tape → Bool
-said t = eqb t.ans 1
-
--- the tape with yes or no for an answer
-abbrev pub saying : Bool → Tape → Tape
-saying b t =
-    record { at = t.at; next = t.next; second = t.second; rows = t.rows; byte = t.byte; left = t.left; no = t.no; ans = cond b 1 0 }
+-- an answer dropped
+abbrev pub void : {A : Type 0} → Result A Refusal → Result (Unit {0}) Refusal
+void (Ok a) = Ok tt
+void (Err e) = Err e
 
 -- ## What is asked
 
--- the lists are within 01's sizes
-pub record Sized (ks ls : List ℕ) : Type 0 where
-  pub pair : length ls ≡ length ks
-  pub few : length ks ≤ 65535
-  pub small : total ls ≤ 16777216
-
--- the places of the next two tokens that are no trivia
-pub record Looks (t : Tape) (ks : List ℕ) : Type 0 where
-  pub end : t.at ≤ length ks
-  pub few : length ks ≤ 65535
-  pub next : t.next ≡ skipped t.at ks
-  pub second : t.second ≡ skipped (t.next + 1) ks
-
--- the tape's invariant, which is all that a function asks; one that closes over a caller's mark m asks that it is `Marked`
-pub record Ready (t : Tape) (ks ls tab : List ℕ) : Type 0 where
-  pub going : t.no ≡ 0
-  pub sized : Sized ks ls
-  pub looks : Looks t ks
-  pub fits : Fits (in_of ks ls tab) (state_of t tab)
-
-pub record Marked (m : ℕ) (t : Tape) (tab : List ℕ) : Type 0 where
-  pub based : Based m (state_of t tab)
+-- m is the mark of a checkpoint: the rows since it are a whole number of subtrees
+pub record Marked (m : ℕ) (t : Tape) : Type 0 where
+  pub based : Based m (state_of t)
 
 -- ## What is ensured
 
 -- a tape that has written nothing, with n entries left
-pub record Begins (n : ℕ) (t : Tape) (ks : List ℕ) : Type 0 where
+pub record Begins (n : ℕ) (t : Tape) (ks ls tab : List ℕ) : Type 0 where
+  pub kinds : t.kinds.now ≡ ks
+  pub lens : t.lens.now ≡ ls
+  pub table : t.table.now ≡ tab
   pub at : t.at ≡ 0
   pub byte : t.byte ≡ 0
   pub rows : t.rows ≡ 0
   pub left : t.left ≡ n
-  pub going : t.no ≡ 0
-  pub looks : Looks t ks
 
--- Under the mark m the program p goes from t to r and answers a, or is refused: what the code comes to is what the definition says
-pub record Step {A : Type 0} (m : ℕ) (p : Prog A) (a : A) (t r : Tape) (ks ls tab tab' : List ℕ) : Type 0 where
-  pub is : out_of a r tab' ≡ run (in_of ks ls tab) t.left m p (state_of t tab)
-  pub ready : r.no ≡ 0 → Ready r ks ls tab'
-  pub len : length tab' ≡ length tab
+-- a refusal for this reason at the next token
+pub record Refuses (why : Reason) (e : Refusal) (t : Tape) : Type 0 where
+  pub reason : e.reason ≡ why
+  pub place : e.place ≡ skipped t.at t.kinds.now
+
+-- the lists are the same, and so is the table that is lent, with as many elements
+pub record Same (t r : Tape) : Type 0 where
+  pub kinds : r.kinds.now ≡ t.kinds.now
+  pub lens : r.lens.now ≡ t.lens.now
+  pub len : length r.table.now ≡ length t.table.now
+  pub name : r.table.ghost_name ≡ t.table.ghost_name
+
+-- and as many entries are left
+pub record Kept (t r : Tape) : Type 0 where
+  pub same : Same t r
   pub left : r.left ≡ t.left
 
--- what one leaf comes to; the places of the next two tokens stay
-pub record Leaf (t r : Tape) (ks ls tab tab' : List ℕ) : Type 0 where
-  pub is : out_of tt r tab' ≡ leaf_at (in_of ks ls tab) (state_of t tab)
-  pub at : r.no ≡ 0 → r.at ≡ t.at + 1
-  pub next : r.next ≡ t.next
-  pub second : r.second ≡ t.second
-  pub len : length tab' ≡ length tab
-  pub left : r.left ≡ t.left
+-- Under the mark m the program p goes from t to r and answers as o says, or is refused: what the code comes to is what the definition says
+pub record Step {A : Type 0} (m : ℕ) (p : Prog A) (o : Result A Refusal) (t r : Tape) : Type 0 where
+  pub is : out_of o (state_of r) ≡ run (given t) t.left m p (state_of t)
+  pub kept : Kept t r
 
 -- the same for a program that closes over no mark but its own
-pub record Ran {A : Type 0} (p : Prog A) (a : A) (t r : Tape) (ks ls tab tab' : List ℕ) : Type 0 where
-  pub under : (m : ℕ) → Step m p a t r ks ls tab tab'
+pub record Ran {A : Type 0} (p : Prog A) (o : Result A Refusal) (t r : Tape) : Type 0 where
+  pub under : (m : ℕ) → Step m p o t r
 
--- ## A step behind one that may have been refused
+-- one leaf
+pub record Leaf (o : Result (Unit {0}) Refusal) (t r : Tape) : Type 0 where
+  pub is : out_of o (state_of r) ≡ leaf_at (given t) (state_of t)
+  pub at : IfOk o (λ _. r.at ≡ t.at + 1)
+  pub kept : Kept t r
 
--- A tape that is ready, with m a mark of it, unless it is refused
-pub record Held (m : ℕ) (t : Tape) (ks ls tab : List ℕ) : Type 0 where
-  pub ready : t.no ≡ 0 → Ready t ks ls tab
-  pub marked : t.no ≡ 0 → Marked m t tab
+-- a checkpoint, and its mark
+pub record Marks (o : Result ℕ Refusal) (t r : Tape) : Type 0 where
+  pub ran : Ran flush (void o) t r
+  pub mark : IfOk o (λ c. c ≡ r.rows)
 
--- Where t is not refused, p goes from t to r; a refused tape comes back as it is
-pub record Follows {A : Type 0} (m : ℕ) (p : Prog A) (a : A) (t r : Tape) (ks ls tab tab' : List ℕ) : Type 0 where
-  pub on : t.no ≡ 0 → Step m p a t r ks ls tab tab'
-  pub off : (t.no ≡ 0 → ⊥) → (r ≡ t) × (tab' ≡ tab)
+-- an entry of a counted rule, which tells how many were left; with none left, refusal 10
+pub record Enters (o : Result ℕ Refusal) (t r : Tape) : Type 0 where
+  pub same : Same t r
+  pub state : state_of r ≡ state_of t
+  pub some : IfOk o (λ n. (n ≡ t.left) × (t.left ≡ suc r.left))
+  pub none : IfErr o (λ e. (t.left ≡ 0) × ((r.left ≡ 0) × Refuses Reason.Deep e t))
+
+-- n entries are left, and nothing else has changed
+pub record Leaves (n : ℕ) (t r : Tape) : Type 0 where
+  pub same : Same t r
+  pub state : state_of r ≡ state_of t
+  pub left : r.left ≡ n

@@ -1,4 +1,4 @@
-// A buffer filled from a reader.
+// A buffer filled from a reader. (std's `read_exact` takes an input that ends early for an error, and says nothing of what an error leaves.)
 ghost use Rattle.std.specs.Prelude.{◌≡◌, ◌<◌, length, take, IfOk, OnErr};
 ghost use Rattle.std.specs.Io.{ReadsAtMost};
 ghost use Rattle.std.specs.Io.KnownBytes.{Consumes, IsAtEnd};

@@ -2,302 +2,301 @@
 -- Assumes nothing.
 use Rattle.grammar.specs.Loops.{Binding, Tightening}
 use Rattle.kinds.specs.Modes.{brace_of, cx_of}
-use Prim.Native.Nat.{◌+◌, ◌*◌}
-use mathlib.Core.Bool.{false}
+use Rattle.std.specs.Prelude.{◌+◌, ◌*◌, false}
 use Rattle.definition.specs.Prog.{repeat}
 use Rattle.definition.specs.Grammar.{block_stmts, chain_turn, else_branches, expr_list, match_list, object_fields, select_list, tuple_turn}
 use Rattle.tape.specs.Steps.{Loop, fuel}
 use Rattle.grammar.proofs.+grammar.Given as goal
 
-abbrev pub decreases-a : goal.decreases-a
-decreases-a l = 13 * l.tape.left + 2
+abbrev pub decreases-blocks::block : goal.decreases-blocks::block
+decreases-blocks::block l = 13 * l.p.now.left + 5
 
-abbrev pub decreases-b : goal.decreases-b
-decreases-b l = 13 * l.tape.left + 3
+abbrev pub decreases-blocks::block_body : goal.decreases-blocks::block_body
+decreases-blocks::block_body l = 13 * l.p.now.left + 2
 
-abbrev pub decreases-bi : goal.decreases-bi
-decreases-bi l = 13 * l.tape.left + 0
+abbrev pub decreases-blocks::block_open : goal.decreases-blocks::block_open
+decreases-blocks::block_open l = 13 * l.p.now.left + 3
 
-abbrev pub decreases-bl : goal.decreases-bl
-decreases-bl l = 13 * l.tape.left + 5
+abbrev pub decreases-blocks::block_stmts : goal.decreases-blocks::block_stmts
+decreases-blocks::block_stmts l = 13 * l.p.now.left + 1
 
-abbrev pub decreases-bo : goal.decreases-bo
-decreases-bo l = 13 * l.tape.left + 3
+abbrev pub decreases-blocks::block_with : goal.decreases-blocks::block_with
+decreases-blocks::block_with l = 13 * l.p.now.left + 4
 
-abbrev pub decreases-bs : goal.decreases-bs
-decreases-bs l = 13 * l.tape.left + 1
+abbrev pub decreases-chains::chain_link : goal.decreases-chains::chain_link
+decreases-chains::chain_link l = 13 * l.p.now.left + 6
 
-abbrev pub decreases-bw : goal.decreases-bw
-decreases-bw l = 13 * l.tape.left + 4
+abbrev pub decreases-chains::chain_step : goal.decreases-chains::chain_step
+decreases-chains::chain_step l = 13 * l.p.now.left + 7
 
-abbrev pub decreases-by : goal.decreases-by
-decreases-by l = 13 * l.tape.left + 2
+abbrev pub decreases-primary::closure_arguments : goal.decreases-primary::closure_arguments
+decreases-primary::closure_arguments l = 13 * l.p.now.left + 6
 
-abbrev pub decreases-ca : goal.decreases-ca
-decreases-ca l = 13 * l.tape.left + 6
+abbrev pub decreases-control::condition : goal.decreases-control::condition
+decreases-control::condition l = 13 * l.p.now.left + 4
 
-abbrev pub decreases-cd : goal.decreases-cd
-decreases-cd l = 13 * l.tape.left + 3
+abbrev pub decreases-control::condition_init : goal.decreases-control::condition_init
+decreases-control::condition_init l = 13 * l.p.now.left + 2
 
-abbrev pub decreases-ch : goal.decreases-ch
-decreases-ch l = 13 * l.tape.left + 8
+abbrev pub decreases-control::condition_let : goal.decreases-control::condition_let
+decreases-control::condition_let l = 13 * l.p.now.left + 3
 
-abbrev pub decreases-ci : goal.decreases-ci
-decreases-ci l = 13 * l.tape.left + 2
+abbrev pub decreases-control::else_branch : goal.decreases-control::else_branch
+decreases-control::else_branch l = 13 * l.p.now.left + 6
 
-abbrev pub decreases-co : goal.decreases-co
-decreases-co l = 13 * l.tape.left + 4
+abbrev pub decreases-control::else_branches : goal.decreases-control::else_branches
+decreases-control::else_branches l = 13 * l.p.now.left + 7
 
-abbrev pub decreases-d : goal.decreases-d
-decreases-d l = 13 * l.tape.left + 7
+abbrev pub decreases-control::else_if : goal.decreases-control::else_if
+decreases-control::else_if l = 13 * l.p.now.left + 5
 
-abbrev pub decreases-e : goal.decreases-e
-decreases-e l = 13 * l.tape.left + 3
+abbrev pub decreases-groups::empty_group : goal.decreases-groups::empty_group
+decreases-groups::empty_group l = 13 * l.p.now.left + 3
 
-abbrev pub decreases-eb : goal.decreases-eb
-decreases-eb l = 13 * l.tape.left + 6
+abbrev pub decreases-expressions::expr : goal.decreases-expressions::expr
+decreases-expressions::expr l = 13 * l.p.now.left + 2
 
-abbrev pub decreases-eg : goal.decreases-eg
-decreases-eg l = 13 * l.tape.left + 3
+abbrev pub decreases-expressions::expr_after : goal.decreases-expressions::expr_after
+decreases-expressions::expr_after l = 13 * l.p.now.left + 3
 
-abbrev pub decreases-ei : goal.decreases-ei
-decreases-ei l = 13 * l.tape.left + 8
+abbrev pub decreases-operators::expr_binary : goal.decreases-operators::expr_binary
+decreases-operators::expr_binary l = 13 * l.p.now.left + 0
 
-abbrev pub decreases-el : goal.decreases-el
-decreases-el l = 13 * l.tape.left + 5
+abbrev pub decreases-operators::expr_binary_text : goal.decreases-operators::expr_binary_text
+decreases-operators::expr_binary_text l = 13 * l.p.now.left + 3
 
-abbrev pub decreases-en : goal.decreases-en
-decreases-en l = 13 * l.tape.left + 7
+abbrev pub decreases-chains::expr_chain : goal.decreases-chains::expr_chain
+decreases-chains::expr_chain l = 13 * l.p.now.left + 8
 
-abbrev pub decreases-er : goal.decreases-er
-decreases-er l = 13 * l.tape.left + 2
+abbrev pub decreases-control::expr_for : goal.decreases-control::expr_for
+decreases-control::expr_for l = 13 * l.p.now.left + 6
 
-abbrev pub decreases-ex : goal.decreases-ex
-decreases-ex l = 13 * l.tape.left + 1
+abbrev pub decreases-control::expr_if : goal.decreases-control::expr_if
+decreases-control::expr_if l = 13 * l.p.now.left + 8
 
-abbrev pub decreases-f : goal.decreases-f
-decreases-f l = 13 * l.tape.left + 2
+abbrev pub decreases-expressions::expr_if_any : goal.decreases-expressions::expr_if_any
+decreases-expressions::expr_if_any l = 13 * l.p.now.left + 2
 
-abbrev pub decreases-fo : goal.decreases-fo
-decreases-fo l = 13 * l.tape.left + 6
+abbrev pub decreases-blocks::expr_list : goal.decreases-blocks::expr_list
+decreases-blocks::expr_list l = 13 * l.p.now.left + 3
 
-abbrev pub decreases-h : goal.decreases-h
-decreases-h l = 13 * l.tape.left + 3
+abbrev pub decreases-control::expr_loop : goal.decreases-control::expr_loop
+decreases-control::expr_loop l = 13 * l.p.now.left + 6
 
-abbrev pub decreases-i : goal.decreases-i
-decreases-i l = 13 * l.tape.left + 6
+abbrev pub decreases-control::expr_match : goal.decreases-control::expr_match
+decreases-control::expr_match l = 13 * l.p.now.left + 6
 
-abbrev pub decreases-im : goal.decreases-im
-decreases-im l = 13 * l.tape.left + 6
+abbrev pub decreases-groups::expr_object : goal.decreases-groups::expr_object
+decreases-groups::expr_object l = 13 * l.p.now.left + 5
 
-abbrev pub decreases-is : goal.decreases-is
-decreases-is l = 13 * l.tape.left + 4
+abbrev pub decreases-primary::expr_primary : goal.decreases-primary::expr_primary
+decreases-primary::expr_primary l = 13 * l.p.now.left + 11
 
-abbrev pub decreases-it : goal.decreases-it
-decreases-it l = 13 * l.tape.left + 6
+abbrev pub decreases-operators::expr_range : goal.decreases-operators::expr_range
+decreases-operators::expr_range l = 13 * l.p.now.left + 2
 
-abbrev pub decreases-l : goal.decreases-l
-decreases-l l = 13 * l.tape.left + 2
+abbrev pub decreases-control::expr_select : goal.decreases-control::expr_select
+decreases-control::expr_select l = 13 * l.p.now.left + 7
 
-abbrev pub decreases-li : goal.decreases-li
-decreases-li l = 13 * l.tape.left + 6
+abbrev pub decreases-groups::expr_tuple_or_group : goal.decreases-groups::expr_tuple_or_group
+decreases-groups::expr_tuple_or_group l = 13 * l.p.now.left + 4
 
-abbrev pub decreases-lp : goal.decreases-lp
-decreases-lp l = 13 * l.tape.left + 6
+abbrev pub decreases-control::expr_while : goal.decreases-control::expr_while
+decreases-control::expr_while l = 13 * l.p.now.left + 6
 
-abbrev pub decreases-ma : goal.decreases-ma
-decreases-ma l = 13 * l.tape.left + 6
+abbrev pub decreases-expressions::expr_with : goal.decreases-expressions::expr_with
+decreases-expressions::expr_with l = 13 * l.p.now.left + 1
 
-abbrev pub decreases-mc : goal.decreases-mc
-decreases-mc l = 13 * l.tape.left + 4
+abbrev pub decreases-control::for_in : goal.decreases-control::for_in
+decreases-control::for_in l = 13 * l.p.now.left + 2
 
-abbrev pub decreases-ml : goal.decreases-ml
-decreases-ml l = 13 * l.tape.left + 5
+abbrev pub decreases-items::item_const : goal.decreases-items::item_const
+decreases-items::item_const l = 13 * l.p.now.left + 3
 
-abbrev pub decreases-n : goal.decreases-n
-decreases-n l = 13 * l.tape.left + 1
+abbrev pub decreases-items::item_fn : goal.decreases-items::item_fn
+decreases-items::item_fn l = 13 * l.p.now.left + 6
 
-abbrev pub decreases-o : goal.decreases-o
-decreases-o l = 13 * l.tape.left + 2
+abbrev pub decreases-items::item_impl : goal.decreases-items::item_impl
+decreases-items::item_impl l = 13 * l.p.now.left + 6
 
-abbrev pub decreases-ob : goal.decreases-ob
-decreases-ob l = 13 * l.tape.left + 12
+abbrev pub decreases-items::item_mod : goal.decreases-items::item_mod
+decreases-items::item_mod l = 13 * l.p.now.left + 6
 
-abbrev pub decreases-oc : goal.decreases-oc
-decreases-oc l = 13 * l.tape.left + 9
+abbrev pub decreases-blocks::items : goal.decreases-blocks::items
+decreases-blocks::items l = 13 * l.p.now.left + 4
 
-abbrev pub decreases-of : goal.decreases-of
-decreases-of l = 13 * l.tape.left + 4
+abbrev pub decreases-items::local : goal.decreases-items::local
+decreases-items::local l = 13 * l.p.now.left + 2
 
-abbrev pub decreases-oj : goal.decreases-oj
-decreases-oj l = 13 * l.tape.left + 5
+abbrev pub decreases-control::match_case : goal.decreases-control::match_case
+decreases-control::match_case l = 13 * l.p.now.left + 4
 
-abbrev pub decreases-on : goal.decreases-on
-decreases-on l = 13 * l.tape.left + 1
+abbrev pub decreases-control::match_list : goal.decreases-control::match_list
+decreases-control::match_list l = 13 * l.p.now.left + 5
 
-abbrev pub decreases-oo : goal.decreases-oo
-decreases-oo l = 13 * l.tape.left + 2
+abbrev pub decreases-operators::nest : goal.decreases-operators::nest
+decreases-operators::nest l = 13 * l.p.now.left + 1
 
-abbrev pub decreases-ot : goal.decreases-ot
-decreases-ot l = 13 * l.tape.left + 3
+abbrev pub decreases-groups::object_fields : goal.decreases-groups::object_fields
+decreases-groups::object_fields l = 13 * l.p.now.left + 4
 
-abbrev pub decreases-ou : goal.decreases-ou
-decreases-ou l = 13 * l.tape.left + 0
+abbrev pub decreases-operators::operand : goal.decreases-operators::operand
+decreases-operators::operand l = 13 * l.p.now.left + 2
 
-abbrev pub decreases-p : goal.decreases-p
-decreases-p l = 13 * l.tape.left + 2
+abbrev pub decreases-expressions::outer_assign : goal.decreases-expressions::outer_assign
+decreases-expressions::outer_assign l = 13 * l.p.now.left + 2
 
-abbrev pub decreases-pl : goal.decreases-pl
-decreases-pl l = 13 * l.tape.left + 6
+abbrev pub decreases-expressions::outer_binary : goal.decreases-expressions::outer_binary
+decreases-expressions::outer_binary l = 13 * l.p.now.left + 1
 
-abbrev pub decreases-pp : goal.decreases-pp
-decreases-pp l = 13 * l.tape.left + 6
+abbrev pub decreases-expressions::outer_chain : goal.decreases-expressions::outer_chain
+decreases-expressions::outer_chain l = 13 * l.p.now.left + 9
 
-abbrev pub decreases-pr : goal.decreases-pr
-decreases-pr l = 13 * l.tape.left + 11
+abbrev pub decreases-expressions::outer_expr_with : goal.decreases-expressions::outer_expr_with
+decreases-expressions::outer_expr_with l = 13 * l.p.now.left + 0
 
-abbrev pub decreases-ps : goal.decreases-ps
-decreases-ps l = 13 * l.tape.left + 5
+abbrev pub decreases-expressions::outer_expr_with_text : goal.decreases-expressions::outer_expr_with_text
+decreases-expressions::outer_expr_with_text l = 13 * l.p.now.left + 12
 
-abbrev pub decreases-pu : goal.decreases-pu
-decreases-pu l = 13 * l.tape.left + 10
+abbrev pub decreases-expressions::outer_op : goal.decreases-expressions::outer_op
+decreases-expressions::outer_op l = 13 * l.p.now.left + 2
 
-abbrev pub decreases-pw : goal.decreases-pw
-decreases-pw l = 13 * l.tape.left + 9
+abbrev pub decreases-expressions::outer_rest : goal.decreases-expressions::outer_rest
+decreases-expressions::outer_rest l = 13 * l.p.now.left + 3
 
-abbrev pub decreases-r : goal.decreases-r
-decreases-r l = 13 * l.tape.left + 1
+abbrev pub decreases-blocks::parenthesized : goal.decreases-blocks::parenthesized
+decreases-blocks::parenthesized l = 13 * l.p.now.left + 5
 
-abbrev pub decreases-rd : goal.decreases-rd
-decreases-rd l = 13 * l.tape.left + 2
+abbrev pub decreases-primary::primary_last : goal.decreases-primary::primary_last
+decreases-primary::primary_last l = 13 * l.p.now.left + 6
 
-abbrev pub decreases-rr : goal.decreases-rr
-decreases-rr l = 13 * l.tape.left + 1
+abbrev pub decreases-primary::primary_path : goal.decreases-primary::primary_path
+decreases-primary::primary_path l = 13 * l.p.now.left + 6
 
-abbrev pub decreases-s : goal.decreases-s
-decreases-s l = 13 * l.tape.left + 12
+abbrev pub decreases-primary::primary_sign : goal.decreases-primary::primary_sign
+decreases-primary::primary_sign l = 13 * l.p.now.left + 10
 
-abbrev pub decreases-sb : goal.decreases-sb
-decreases-sb l = 13 * l.tape.left + 11
+abbrev pub decreases-primary::primary_word : goal.decreases-primary::primary_word
+decreases-primary::primary_word l = 13 * l.p.now.left + 9
 
-abbrev pub decreases-sc : goal.decreases-sc
-decreases-sc l = 13 * l.tape.left + 5
+abbrev pub decreases-operators::range_rest : goal.decreases-operators::range_rest
+decreases-operators::range_rest l = 13 * l.p.now.left + 1
 
-abbrev pub decreases-se : goal.decreases-se
-decreases-se l = 13 * l.tape.left + 7
+abbrev pub decreases-primary::range_to : goal.decreases-primary::range_to
+decreases-primary::range_to l = 13 * l.p.now.left + 1
 
-abbrev pub decreases-si : goal.decreases-si
-decreases-si l = 13 * l.tape.left + 9
+abbrev pub decreases-control::select_case : goal.decreases-control::select_case
+decreases-control::select_case l = 13 * l.p.now.left + 5
 
-abbrev pub decreases-sk : goal.decreases-sk
-decreases-sk l = 13 * l.tape.left + 8
+abbrev pub decreases-control::select_list : goal.decreases-control::select_list
+decreases-control::select_list l = 13 * l.p.now.left + 6
 
-abbrev pub decreases-sl : goal.decreases-sl
-decreases-sl l = 13 * l.tape.left + 6
+abbrev pub decreases-control::select_pat : goal.decreases-control::select_pat
+decreases-control::select_pat l = 13 * l.p.now.left + 4
 
-abbrev pub decreases-sm : goal.decreases-sm
-decreases-sm l = 13 * l.tape.left + 7
+abbrev pub decreases-statements::stmt : goal.decreases-statements::stmt
+decreases-statements::stmt l = 13 * l.p.now.left + 0
 
-abbrev pub decreases-so : goal.decreases-so
-decreases-so l = 13 * l.tape.left + 10
+abbrev pub decreases-statements::stmt_expr : goal.decreases-statements::stmt_expr
+decreases-statements::stmt_expr l = 13 * l.p.now.left + 1
 
-abbrev pub decreases-sp : goal.decreases-sp
-decreases-sp l = 13 * l.tape.left + 4
+abbrev pub decreases-statements::stmt_inner : goal.decreases-statements::stmt_inner
+decreases-statements::stmt_inner l = 13 * l.p.now.left + 9
 
-abbrev pub decreases-st : goal.decreases-st
-decreases-st l = 13 * l.tape.left + 0
+abbrev pub decreases-statements::stmt_kind : goal.decreases-statements::stmt_kind
+decreases-statements::stmt_kind l = 13 * l.p.now.left + 8
 
-abbrev pub decreases-sv : goal.decreases-sv
-decreases-sv l = 13 * l.tape.left + 1
+abbrev pub decreases-statements::stmt_mod : goal.decreases-statements::stmt_mod
+decreases-statements::stmt_mod l = 13 * l.p.now.left + 7
 
-abbrev pub decreases-tg : goal.decreases-tg
-decreases-tg l = 13 * l.tape.left + 4
+abbrev pub decreases-statements::stmt_once : goal.decreases-statements::stmt_once
+decreases-statements::stmt_once l = 13 * l.p.now.left + 12
 
-abbrev pub decreases-u : goal.decreases-u
-decreases-u l = 13 * l.tape.left + 3
+abbrev pub decreases-statements::stmt_outer : goal.decreases-statements::stmt_outer
+decreases-statements::stmt_outer l = 13 * l.p.now.left + 10
 
-abbrev pub decreases-w : goal.decreases-w
-decreases-w l = 13 * l.tape.left + 6
+abbrev pub decreases-statements::stmt_text : goal.decreases-statements::stmt_text
+decreases-statements::stmt_text l = 13 * l.p.now.left + 11
 
-abbrev pub decreases-x : goal.decreases-x
-decreases-x l = 13 * l.tape.left + 3
+abbrev pub decreases-groups::tuple_items : goal.decreases-groups::tuple_items
+decreases-groups::tuple_items l = 13 * l.p.now.left + 3
 
-abbrev pub invariant-b-loop-brace : goal.invariant-b-loop-brace
-invariant-b-loop-brace l =
-    Binding l.least (brace_of l.brace) (cx_of l.cx) l.initial.ahead l.ahead l.any l.initial.t l.t l.kinds l.lens l.initial.table l.table
+abbrev pub invariant-blocks::block_stmts-loop-p : goal.invariant-blocks::block_stmts-loop-p
+invariant-blocks::block_stmts-loop-p l =
+    Loop block_stmts block_stmts l.initial.p l.p
 
-abbrev pub decreases-b-loop-brace : goal.decreases-b-loop-brace
-decreases-b-loop-brace l =
-    fuel l.t l.kinds
+abbrev pub decreases-blocks::block_stmts-loop-p : goal.decreases-blocks::block_stmts-loop-p
+decreases-blocks::block_stmts-loop-p l =
+    fuel l.p
 
-abbrev pub invariant-bs-loop-table : goal.invariant-bs-loop-table
-invariant-bs-loop-table l =
-    Loop block_stmts block_stmts l.initial.t l.t l.kinds l.lens l.initial.table l.table
+abbrev pub invariant-control::else_branches-loop-p : goal.invariant-control::else_branches-loop-p
+invariant-control::else_branches-loop-p l =
+    Loop else_branches else_branches l.initial.p l.p
 
-abbrev pub decreases-bs-loop-table : goal.decreases-bs-loop-table
-decreases-bs-loop-table l =
-    fuel l.t l.kinds
+abbrev pub decreases-control::else_branches-loop-p : goal.decreases-control::else_branches-loop-p
+decreases-control::else_branches-loop-p l =
+    fuel l.p
 
-abbrev pub invariant-ch-loop-t : goal.invariant-ch-loop-t
-invariant-ch-loop-t l =
-    Loop (repeat chain_turn (l.last, l.any)) (repeat chain_turn (l.kind, false)) l.initial.t l.t l.kinds l.lens l.initial.table l.table
+abbrev pub invariant-operators::expr_binary_text-loop-ahead : goal.invariant-operators::expr_binary_text-loop-ahead
+invariant-operators::expr_binary_text-loop-ahead l =
+    Binding l.least (brace_of l.brace) (cx_of l.cx) l.initial.ahead l.ahead l.any l.initial.p l.p
 
-abbrev pub decreases-ch-loop-t : goal.decreases-ch-loop-t
-decreases-ch-loop-t l =
-    fuel l.t l.kinds
+abbrev pub decreases-operators::expr_binary_text-loop-ahead : goal.decreases-operators::expr_binary_text-loop-ahead
+decreases-operators::expr_binary_text-loop-ahead l =
+    fuel l.p
 
-abbrev pub invariant-en-loop-table : goal.invariant-en-loop-table
-invariant-en-loop-table l =
-    Loop else_branches else_branches l.initial.t l.t l.kinds l.lens l.initial.table l.table
+abbrev pub invariant-chains::expr_chain-loop-link : goal.invariant-chains::expr_chain-loop-link
+invariant-chains::expr_chain-loop-link l =
+    Loop (repeat chain_turn (l.last, l.any)) (repeat chain_turn (l.kind, false)) l.initial.p l.p
 
-abbrev pub decreases-en-loop-table : goal.decreases-en-loop-table
-decreases-en-loop-table l =
-    fuel l.t l.kinds
+abbrev pub decreases-chains::expr_chain-loop-link : goal.decreases-chains::expr_chain-loop-link
+decreases-chains::expr_chain-loop-link l =
+    fuel l.p
 
-abbrev pub invariant-ml-loop-table : goal.invariant-ml-loop-table
-invariant-ml-loop-table l =
-    Loop match_list match_list l.initial.t l.t l.kinds l.lens l.initial.table l.table
+abbrev pub invariant-blocks::expr_list-loop-p : goal.invariant-blocks::expr_list-loop-p
+invariant-blocks::expr_list-loop-p l =
+    Loop expr_list expr_list l.initial.p l.p
 
-abbrev pub decreases-ml-loop-table : goal.decreases-ml-loop-table
-decreases-ml-loop-table l =
-    fuel l.t l.kinds
+abbrev pub decreases-blocks::expr_list-loop-p : goal.decreases-blocks::expr_list-loop-p
+decreases-blocks::expr_list-loop-p l =
+    fuel l.p
 
-abbrev pub invariant-of-loop-table : goal.invariant-of-loop-table
-invariant-of-loop-table l =
-    Loop object_fields object_fields l.initial.t l.t l.kinds l.lens l.initial.table l.table
+abbrev pub invariant-control::match_list-loop-p : goal.invariant-control::match_list-loop-p
+invariant-control::match_list-loop-p l =
+    Loop match_list match_list l.initial.p l.p
 
-abbrev pub decreases-of-loop-table : goal.decreases-of-loop-table
-decreases-of-loop-table l =
-    fuel l.t l.kinds
+abbrev pub decreases-control::match_list-loop-p : goal.decreases-control::match_list-loop-p
+decreases-control::match_list-loop-p l =
+    fuel l.p
 
-abbrev pub invariant-rd-loop-op : goal.invariant-rd-loop-op
-invariant-rd-loop-op l =
-    Tightening l.c l.op (brace_of l.brace) (cx_of l.cx) l.place l.initial.ahead l.ahead l.initial.t l.t l.kinds l.lens l.initial.table l.table
+abbrev pub invariant-groups::object_fields-loop-p : goal.invariant-groups::object_fields-loop-p
+invariant-groups::object_fields-loop-p l =
+    Loop object_fields object_fields l.initial.p l.p
 
-abbrev pub decreases-rd-loop-op : goal.decreases-rd-loop-op
-decreases-rd-loop-op l =
-    fuel l.t l.kinds
+abbrev pub decreases-groups::object_fields-loop-p : goal.decreases-groups::object_fields-loop-p
+decreases-groups::object_fields-loop-p l =
+    fuel l.p
 
-abbrev pub invariant-sl-loop-table : goal.invariant-sl-loop-table
-invariant-sl-loop-table l =
-    Loop select_list select_list l.initial.t l.t l.kinds l.lens l.initial.table l.table
+abbrev pub invariant-operators::operand-loop-ahead : goal.invariant-operators::operand-loop-ahead
+invariant-operators::operand-loop-ahead l =
+    Tightening l.c l.op (brace_of l.brace) (cx_of l.cx) l.place l.initial.ahead l.ahead l.initial.p l.p
 
-abbrev pub decreases-sl-loop-table : goal.decreases-sl-loop-table
-decreases-sl-loop-table l =
-    fuel l.t l.kinds
+abbrev pub decreases-operators::operand-loop-ahead : goal.decreases-operators::operand-loop-ahead
+decreases-operators::operand-loop-ahead l =
+    fuel l.p
 
-abbrev pub invariant-u-loop-table : goal.invariant-u-loop-table
-invariant-u-loop-table l =
-    Loop (repeat tuple_turn l.is_tuple) (repeat tuple_turn false) l.initial.t l.t l.kinds l.lens l.initial.table l.table
+abbrev pub invariant-control::select_list-loop-p : goal.invariant-control::select_list-loop-p
+invariant-control::select_list-loop-p l =
+    Loop select_list select_list l.initial.p l.p
 
-abbrev pub decreases-u-loop-table : goal.decreases-u-loop-table
-decreases-u-loop-table l =
-    fuel l.t l.kinds
+abbrev pub decreases-control::select_list-loop-p : goal.decreases-control::select_list-loop-p
+decreases-control::select_list-loop-p l =
+    fuel l.p
 
-abbrev pub invariant-x-loop-table : goal.invariant-x-loop-table
-invariant-x-loop-table l =
-    Loop expr_list expr_list l.initial.t l.t l.kinds l.lens l.initial.table l.table
+abbrev pub invariant-groups::tuple_items-loop-p : goal.invariant-groups::tuple_items-loop-p
+invariant-groups::tuple_items-loop-p l =
+    Loop (repeat tuple_turn l.is_tuple) (repeat tuple_turn false) l.initial.p l.p
 
-abbrev pub decreases-x-loop-table : goal.decreases-x-loop-table
-decreases-x-loop-table l =
-    fuel l.t l.kinds
+abbrev pub decreases-groups::tuple_items-loop-p : goal.decreases-groups::tuple_items-loop-p
+decreases-groups::tuple_items-loop-p l =
+    fuel l.p

@@ -11,8 +11,8 @@ returns-in_err-put_number-2 g c = record { grows = grows_trans _ _ _ (grows_tran
 pub returns-in_err-put-2 : goal.returns-in_err-put-2
 returns-in_err-put-2 g c = record { grows = grows_trans _ _ _ (grows_trans _ _ _ (grows_trans _ _ _ c.put_number.ensures.grows c.put.ensures.grows) c.put_number-2.ensures.grows) c.put-2.ensures.grows }
 
-pub returns-then-t-eq0 : goal.returns-then-t-eq0
-returns-then-t-eq0 g c = record { grows = grows_trans _ _ _ (grows_trans _ _ _ (grows_trans _ _ _ (grows_trans _ _ _ c.put_number.ensures.grows c.put.ensures.grows) c.put_number-2.ensures.grows) c.put-2.ensures.grows) c.put-then-t-eq0.ensures.grows }
+pub returns-in_default : goal.returns-in_default
+returns-in_default g c = record { grows = grows_trans _ _ _ (grows_trans _ _ _ (grows_trans _ _ _ (grows_trans _ _ _ c.put_number.ensures.grows c.put.ensures.grows) c.put_number-2.ensures.grows) c.put-2.ensures.grows) c.put-in_default.ensures.grows }
 
 pub returns-in_err-put-3 : goal.returns-in_err-put-3
 returns-in_err-put-3 g c = record { grows = grows_trans _ _ _ (grows_trans _ _ _ (grows_trans _ _ _ (grows_trans _ _ _ c.put_number.ensures.grows c.put.ensures.grows) c.put_number-2.ensures.grows) c.put-2.ensures.grows) c.put-3.ensures.grows }

@@ -1,14 +1,9 @@
-use Rattle.std.proofs.Common.{sym, ◌∙◌, arith}
-use Rattle.text.specs.Copy.{bytes_on, bytes_out, bytes_end}
+use Rattle.std.proofs.Common.{ℕ, leb, ◌∙◌, rules, tests}
+use Rattle.std.proofs.lemmas.Iterator.{YieldsList-from_slice}
+use Rattle.std.proofs.lemmas.Iterator.Search.{all_from_yields_List}
+use Rattle.text.specs.Copy.{all_bytes_test}
 use Rattle.text.proofs.are_bytes.Goals as goal
 
-pub returns-then-from-i-gt255 : goal.returns-then-from-i-gt255
-returns-then-from-i-gt255 c =
-    sym (c.loop-i.invariant.1 ∙ bytes_out c.args.from.now c.loop-i.i (omega arith) c.if-from-i-gt255.true)
-
-pub loop-i-preserved : goal.loop-i-preserved
-loop-i-preserved c =
-    (omega arith, c.loop-i.invariant.1 ∙ bytes_on c.args.from.now c.loop-i.i (omega arith) c.if-from-i-gt255.false)
-
 pub returns : goal.returns
-returns c = sym (c.loop-i.invariant.1 ∙ bytes_end c.args.from.now c.loop-i.i (omega arith))
+returns c =
+    all_from_yields_List (λ (x : ℕ). leb x 255) _ _ c.all.result c.all.ensures.ran (YieldsList-from_slice c.args.from.now cc) (λ x b q k. search (rules, tests)) ∙ all_bytes_test c.args.from.now

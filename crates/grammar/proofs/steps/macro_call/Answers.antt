@@ -1,45 +1,34 @@
 -- Written by tools/walk.py from the code and its program; docs/CONTRIBUTING.md says how.
 -- Assumes nothing.
 use Rattle.definition.specs.Grammar.{macro_call}
-use Rattle.tape.specs.Steps.{step_marked, held, followed, both, cut}
+use Rattle.tape.specs.Steps.{step_marked, both, cut, thrown}
 use Rattle.grammar.proofs.steps.macro_call.Goals as goal
 
-pub bump-t-requires : goal.bump-t-requires
-bump-t-requires c =
-    c.requires.1
-
-pub returns-then-t-ne0 : goal.returns-then-t-ne0
+pub returns-in_err-bump : goal.returns-in_err-bump
 unfolding macro_call
-returns-then-t-ne0 c =
-    cut (c.bump-t.ensures.under _) c.if-t-ne0.true
+returns-in_err-bump c =
+    thrown c.from_residual.ensures (cut (c.in_err-bump.ensures.under _))
 
-pub bump-t-requires-2 : goal.bump-t-requires-2
-bump-t-requires-2 c =
-    (c.bump-t.ensures.under 0).ready c.if-t-ne0.false
-
-pub returns-then-t-ne0-2 : goal.returns-then-t-ne0-2
+pub returns-in_err-bump-2 : goal.returns-in_err-bump-2
 unfolding macro_call
-returns-then-t-ne0-2 c =
-    both (c.bump-t.ensures.under _) c.if-t-ne0.false (cut (c.bump-t-2.ensures.under _) c.if-t-ne0-2.true)
+returns-in_err-bump-2 c =
+    thrown c.from_residual-in_err-bump-2.ensures (both (c.in_ok-bump.ensures.under _) (cut (c.in_err-bump-2.ensures.under _)))
 
-pub token_stream-t-requires : goal.token_stream-t-requires
-token_stream-t-requires c =
-    (c.bump-t-2.ensures.under 0).ready c.if-t-ne0-2.false
-
-pub returns-then-t-ne0-3 : goal.returns-then-t-ne0-3
+pub returns-in_err-token_stream : goal.returns-in_err-token_stream
 unfolding macro_call
-returns-then-t-ne0-3 c =
-    both (c.bump-t.ensures.under _) c.if-t-ne0.false (both (c.bump-t-2.ensures.under _) c.if-t-ne0-2.false (cut (c.token_stream-t.ensures.under _) c.if-t-ne0-3.true))
+returns-in_err-token_stream c =
+    thrown c.from_residual-in_err-token_stream.ensures (both (c.in_ok-bump.ensures.under _) (both (c.in_ok-bump-2.ensures.under _) (cut (c.in_err-token_stream.ensures.under _))))
 
-pub bump-t-requires-3 : goal.bump-t-requires-3
-bump-t-requires-3 c =
-    (c.token_stream-t.ensures.under 0).ready c.if-t-ne0-3.false
+pub returns-in_err-bump-3 : goal.returns-in_err-bump-3
+unfolding macro_call
+returns-in_err-bump-3 c =
+    thrown c.from_residual-in_err-bump-3.ensures (both (c.in_ok-bump.ensures.under _) (both (c.in_ok-bump-2.ensures.under _) (both (c.in_ok-token_stream.ensures.under _) (cut (c.in_err-bump-3.ensures.under _)))))
 
 pub finish-requires : goal.finish-requires
 finish-requires c =
-    held (c.bump-t-3.ensures.under _) (step_marked (c.token_stream-t.ensures.under _) c.if-t-ne0-3.false (step_marked (c.bump-t-2.ensures.under _) c.if-t-ne0-2.false (step_marked (c.bump-t.ensures.under _) c.if-t-ne0.false c.requires.0)))
+    step_marked (c.in_ok-bump-3.ensures.under _) (step_marked (c.in_ok-token_stream.ensures.under _) (step_marked (c.in_ok-bump-2.ensures.under _) (step_marked (c.in_ok-bump.ensures.under _) c.requires)))
 
 pub returns : goal.returns
 unfolding macro_call
 returns c =
-    both (c.bump-t.ensures.under _) c.if-t-ne0.false (both (c.bump-t-2.ensures.under _) c.if-t-ne0-2.false (both (c.token_stream-t.ensures.under _) c.if-t-ne0-3.false (followed (c.bump-t-3.ensures.under _) c.finish.ensures)))
+    both (c.in_ok-bump.ensures.under _) (both (c.in_ok-bump-2.ensures.under _) (both (c.in_ok-token_stream.ensures.under _) (both (c.in_ok-bump-3.ensures.under _) c.finish.ensures)))

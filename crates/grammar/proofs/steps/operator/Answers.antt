@@ -1,32 +1,24 @@
 -- Written by tools/walk.py from the code and its program; docs/CONTRIBUTING.md says how.
 -- Assumes nothing.
 use Rattle.definition.specs.Grammar.{operator}
-use Rattle.tape.specs.Steps.{marked_now, step_marked, both, cut, scoped, unscoped}
+use Rattle.tape.specs.Steps.{marked_now, step_marked, both, cut, thrown_ran, scoped, unscoped}
 use Rattle.grammar.proofs.steps.operator.Goals as goal
 
-pub mark-t-requires : goal.mark-t-requires
-mark-t-requires c =
-    c.requires
-
-pub returns-then-t-ne0 : goal.returns-then-t-ne0
+pub returns-in_err-c : goal.returns-in_err-c
 unfolding operator
-returns-then-t-ne0 c =
-    unscoped c.mark-t.ensures c.if-t-ne0.true
+returns-in_err-c c =
+    thrown_ran c.from_residual.ensures (unscoped c.in_err-c.ensures)
 
-pub advance-t-requires : goal.advance-t-requires
-advance-t-requires c =
-    (c.mark-t.ensures.under 0).ready c.if-t-ne0.false
-
-pub returns-then-t-ne0-2 : goal.returns-then-t-ne0-2
+pub returns-in_err-advance : goal.returns-in_err-advance
 unfolding operator
-returns-then-t-ne0-2 c =
-    scoped c.mark-t.ensures c.if-t-ne0.false (cut (c.advance-t.ensures.under _) c.if-t-ne0-2.true)
+returns-in_err-advance c =
+    thrown_ran c.from_residual-in_err-advance.ensures (scoped c.in_ok-c.ensures (cut (c.in_err-advance.ensures.under _)))
 
 pub close_at-requires : goal.close_at-requires
 close_at-requires c =
-    (step_marked (c.advance-t.ensures.under _) c.if-t-ne0-2.false marked_now, (c.advance-t.ensures.under 0).ready c.if-t-ne0-2.false)
+    step_marked (c.in_ok-advance.ensures.under _) (marked_now c.in_ok-c.ensures)
 
 pub returns : goal.returns
 unfolding operator
 returns c =
-    scoped c.mark-t.ensures c.if-t-ne0.false (both (c.advance-t.ensures.under _) c.if-t-ne0-2.false c.close_at.ensures)
+    scoped c.in_ok-c.ensures (both (c.in_ok-advance.ensures.under _) c.close_at.ensures)

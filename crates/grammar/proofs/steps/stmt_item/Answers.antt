@@ -1,24 +1,19 @@
 -- Written by tools/walk.py from the code and its program; docs/CONTRIBUTING.md says how.
 -- Assumes nothing.
-use mathlib.Core.Path.{refl}
 use Rattle.definition.specs.Grammar.{stmt_item}
-use Rattle.tape.specs.Steps.{both, cut, answered}
+use Rattle.tape.specs.Steps.{cut, thrown, ends}
 use Rattle.grammar.proofs.steps.stmt_item.Goals as goal
 
-pub returns-then-tape-ne0 : goal.returns-then-tape-ne0
-returns-then-tape-ne0 c =
-    record { on = λ z. absurd (c.if-tape-ne0.true z); off = λ z. (refl, refl) }
+pub close_at-requires : goal.close_at-requires
+close_at-requires c =
+    c.requires
 
-pub close_at-t-requires : goal.close_at-t-requires
-close_at-t-requires c =
-    (c.requires.marked c.if-tape-ne0.false, c.requires.ready c.if-tape-ne0.false)
-
-pub returns-then-t-ne0 : goal.returns-then-t-ne0
+pub returns-in_err-close_at : goal.returns-in_err-close_at
 unfolding stmt_item
-returns-then-t-ne0 c =
-    record { on = λ z. cut c.close_at-t.ensures c.if-t-ne0.true; off = λ z. absurd (z c.if-tape-ne0.false) }
+returns-in_err-close_at c =
+    thrown c.from_residual.ensures (cut c.in_err-close_at.ensures)
 
 pub returns : goal.returns
 unfolding stmt_item
 returns c =
-    record { on = λ z. both c.close_at-t.ensures c.if-t-ne0.false (answered (c.close_at-t.ensures.ready c.if-t-ne0.false)); off = λ z. absurd (z c.if-tape-ne0.false) }
+    ends c.in_ok-close_at.ensures

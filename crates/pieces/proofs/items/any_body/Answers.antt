@@ -1,37 +1,23 @@
 -- Written by tools/walk.py from the code and its program; docs/CONTRIBUTING.md says how.
 -- Assumes nothing.
+use Rattle.std.proofs.Math.Path.{refl}
+use Rattle.std.proofs.Common.{arith}
 use borrow.Author.Tests.{eq-eqb, ne_eqb}
 use Rattle.definition.specs.Grammar.{any_body}
-use Rattle.tape.specs.Steps.{if_yes, if_no, look}
+use Rattle.tape.specs.Steps.{not_key, if_yes, if_no, look}
 use Rattle.pieces.proofs.items.any_body.Goals as goal
 
-pub peek-k-requires : goal.peek-k-requires
-peek-k-requires c =
-    c.requires.looks
-
-pub field_body-requires : goal.field_body-requires
-field_body-requires c =
-    c.requires
-
-pub returns-then-k-eq-BRACE : goal.returns-then-k-eq-BRACE
+pub returns-in-22 : goal.returns-in-22
 unfolding any_body
-returns-then-k-eq-BRACE c =
-    record { under = λ m. look c.peek-k.ensures (if_yes (eq-eqb _ _ c.if-k-eq-BRACE.true) (c.field_body.ensures.under _)) }
+returns-in-22 c =
+    record { under = λ m. look c.peek.ensures (if_yes (eq-eqb _ _ c.in-22.is) (c.field_body.ensures.under _)) }
 
-pub field_body-requires-then-k-eq-PAREN : goal.field_body-requires-then-k-eq-PAREN
-field_body-requires-then-k-eq-PAREN c =
-    c.requires
-
-pub returns-then-k-eq-PAREN : goal.returns-then-k-eq-PAREN
+pub returns-in-18 : goal.returns-in-18
 unfolding any_body
-returns-then-k-eq-PAREN c =
-    record { under = λ m. look c.peek-k.ensures (if_no (ne_eqb _ _ c.if-k-eq-BRACE.false) (if_yes (eq-eqb _ _ c.if-k-eq-PAREN.true) (c.field_body-then-k-eq-PAREN.ensures.under _))) }
+returns-in-18 c =
+    record { under = λ m. look c.peek.ensures (if_no (not_key 22 c.in-18.is refl) (if_yes (eq-eqb _ _ c.in-18.is) (c.field_body-in-18.ensures.under _))) }
 
-pub empty-requires : goal.empty-requires
-empty-requires c =
-    c.requires
-
-pub returns : goal.returns
+pub returns-in_default : goal.returns-in_default
 unfolding any_body
-returns c =
-    record { under = λ m. look c.peek-k.ensures (if_no (ne_eqb _ _ c.if-k-eq-BRACE.false) (if_no (ne_eqb _ _ c.if-k-eq-PAREN.false) (c.empty.ensures.under _))) }
+returns-in_default c =
+    record { under = λ m. look c.peek.ensures (if_no (ne_eqb _ _ (omega arith)) (if_no (ne_eqb _ _ (omega arith)) (c.empty.ensures.under _))) }

@@ -1,38 +1,30 @@
 -- Written by tools/walk.py from the code and its program; docs/CONTRIBUTING.md says how.
 -- Assumes nothing.
-use borrow.Author.Tests.{eq-eqb, ne_eqb}
 use Rattle.definition.specs.Grammar.{enum_body}
-use Rattle.tape.specs.Steps.{both, cut, ends, if_yes, if_no, nothing}
+use Rattle.tape.specs.Steps.{both, cut, thrown, ends, if_yes, if_no, nothing}
 use Rattle.pieces.proofs.items.enum_body.Goals as goal
 
-pub bump_if-t-requires : goal.bump_if-t-requires
-bump_if-t-requires c =
-    c.requires
-
-pub returns-then-t-ne0 : goal.returns-then-t-ne0
+pub returns-in_err-bump_if : goal.returns-in_err-bump_if
 unfolding enum_body
-returns-then-t-ne0 c =
-    record { under = λ m. cut (c.bump_if-t.ensures.under _) c.if-t-ne0.true }
+returns-in_err-bump_if c =
+    record { under = λ m. thrown c.from_residual.ensures (cut (c.in_err-bump_if.ensures.under _)) }
 
-pub variants-t-requires : goal.variants-t-requires
-variants-t-requires c =
-    (c.bump_if-t.ensures.under 0).ready c.if-t-ne0.false
-
-pub returns-then-t-ne0-2 : goal.returns-then-t-ne0-2
+pub returns-in_err-variants : goal.returns-in_err-variants
 unfolding enum_body
-returns-then-t-ne0-2 c =
-    record { under = λ m. both (c.bump_if-t.ensures.under _) c.if-t-ne0.false (if_yes (eq-eqb _ _ c.if-t-eq1.true) (cut (c.variants-t.ensures.under _) c.if-t-ne0-2.true)) }
+returns-in_err-variants c =
+    record { under = λ m. thrown c.from_residual-in_err-variants.ensures (both (c.in_ok-bump_if.ensures.under _) (if_yes c.if-branch.true (cut (c.in_err-variants.ensures.under _)))) }
 
-pub bump_if-requires : goal.bump_if-requires
-bump_if-requires c =
-    (c.variants-t.ensures.under 0).ready c.if-t-ne0-2.false
-
-pub returns-then-t-eq1 : goal.returns-then-t-eq1
+pub returns-in_err-bump_if-2 : goal.returns-in_err-bump_if-2
 unfolding enum_body
-returns-then-t-eq1 c =
-    record { under = λ m. both (c.bump_if-t.ensures.under _) c.if-t-ne0.false (if_yes (eq-eqb _ _ c.if-t-eq1.true) (both (c.variants-t.ensures.under _) c.if-t-ne0-2.false (ends (c.bump_if.ensures.under _)))) }
+returns-in_err-bump_if-2 c =
+    record { under = λ m. thrown c.from_residual-in_err-bump_if-2.ensures (both (c.in_ok-bump_if.ensures.under _) (if_yes c.if-branch.true (both (c.in_ok-variants.ensures.under _) (cut (c.in_err-bump_if-2.ensures.under _))))) }
 
-pub returns : goal.returns
+pub returns-in_ok-bump_if-2 : goal.returns-in_ok-bump_if-2
 unfolding enum_body
-returns c =
-    record { under = λ m. both (c.bump_if-t.ensures.under _) c.if-t-ne0.false (if_no (ne_eqb _ _ c.if-t-eq1.false) (nothing ((c.bump_if-t.ensures.under 0).ready c.if-t-ne0.false))) }
+returns-in_ok-bump_if-2 c =
+    record { under = λ m. both (c.in_ok-bump_if.ensures.under _) (if_yes c.if-branch.true (both (c.in_ok-variants.ensures.under _) (ends (c.in_ok-bump_if-2.ensures.under _)))) }
+
+pub returns-else-branch : goal.returns-else-branch
+unfolding enum_body
+returns-else-branch c =
+    record { under = λ m. both (c.in_ok-bump_if.ensures.under _) (if_no c.if-branch.false nothing) }

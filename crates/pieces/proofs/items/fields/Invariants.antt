@@ -4,10 +4,10 @@ use Rattle.definition.specs.Grammar.{fields}
 use Rattle.tape.specs.Steps.{Loop, fuel}
 use Rattle.pieces.proofs.items.fields.Given as goal
 
-abbrev pub invariant-loop-table : goal.invariant-loop-table
-invariant-loop-table l =
-    Loop fields fields l.initial.t l.t l.kinds l.lens l.initial.table l.table
+abbrev pub invariant-loop-p : goal.invariant-loop-p
+invariant-loop-p l =
+    Loop fields fields l.initial.p l.p
 
-abbrev pub decreases-loop-table : goal.decreases-loop-table
-decreases-loop-table l =
-    fuel l.t l.kinds
+abbrev pub decreases-loop-p : goal.decreases-loop-p
+decreases-loop-p l =
+    fuel l.p

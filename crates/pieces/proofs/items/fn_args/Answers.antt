@@ -2,23 +2,20 @@
 -- Assumes nothing.
 use borrow.Author.Tests.{eq-eqb, ne_eqb}
 use Rattle.definition.specs.Grammar.{fn_args}
-use Rattle.tape.specs.Steps.{if_yes, if_no, ask, nothing}
+use Rattle.tape.specs.Steps.{thrown, if_yes, if_no, ask, nothing}
 use Rattle.pieces.proofs.items.fn_args.Goals as goal
 
-pub peek-requires : goal.peek-requires
-peek-requires c =
-    c.requires.looks
-
-pub fn_arg_list-requires : goal.fn_arg_list-requires
-fn_arg_list-requires c =
-    c.requires
-
-pub returns-then-peek-eq-PAREN : goal.returns-then-peek-eq-PAREN
+pub returns-in_err-fn_arg_list : goal.returns-in_err-fn_arg_list
 unfolding fn_args
-returns-then-peek-eq-PAREN c =
-    record { under = λ m. ask c.peek.ensures (if_yes (eq-eqb _ _ c.if-peek-eq-PAREN.true) (c.fn_arg_list.ensures.under _)) }
+returns-in_err-fn_arg_list c =
+    record { under = λ m. thrown c.from_residual.ensures (ask c.peek.ensures (if_yes (eq-eqb _ _ c.if-peek-eq-PAREN.true) (c.in_err-fn_arg_list.ensures.under _))) }
 
-pub returns : goal.returns
+pub returns-in_ok-fn_arg_list : goal.returns-in_ok-fn_arg_list
 unfolding fn_args
-returns c =
-    record { under = λ m. ask c.peek.ensures (if_no (ne_eqb _ _ c.if-peek-eq-PAREN.false) (nothing c.requires)) }
+returns-in_ok-fn_arg_list c =
+    record { under = λ m. ask c.peek.ensures (if_yes (eq-eqb _ _ c.if-peek-eq-PAREN.true) (c.in_ok-fn_arg_list.ensures.under _)) }
+
+pub returns-else-peek-eq-PAREN : goal.returns-else-peek-eq-PAREN
+unfolding fn_args
+returns-else-peek-eq-PAREN c =
+    record { under = λ m. ask c.peek.ensures (if_no (ne_eqb _ _ c.if-peek-eq-PAREN.false) nothing) }

@@ -1,32 +1,20 @@
 -- Written by tools/walk.py from the code and its program; docs/CONTRIBUTING.md says how.
 -- Assumes nothing.
 use Rattle.definition.specs.Grammar.{item_struct}
-use Rattle.tape.specs.Steps.{both, cut, ends}
+use Rattle.tape.specs.Steps.{both, cut, thrown, ends}
 use Rattle.pieces.proofs.items.item_struct.Goals as goal
 
-pub bump-t-requires : goal.bump-t-requires
-bump-t-requires c =
-    c.requires
-
-pub returns-then-t-ne0 : goal.returns-then-t-ne0
+pub returns-in_err-bump : goal.returns-in_err-bump
 unfolding item_struct
-returns-then-t-ne0 c =
-    record { under = λ m. cut (c.bump-t.ensures.under _) c.if-t-ne0.true }
+returns-in_err-bump c =
+    record { under = λ m. thrown c.from_residual.ensures (cut (c.in_err-bump.ensures.under _)) }
 
-pub bump_if-t-requires : goal.bump_if-t-requires
-bump_if-t-requires c =
-    (c.bump-t.ensures.under 0).ready c.if-t-ne0.false
-
-pub returns-then-t-ne0-2 : goal.returns-then-t-ne0-2
+pub returns-in_err-bump_if : goal.returns-in_err-bump_if
 unfolding item_struct
-returns-then-t-ne0-2 c =
-    record { under = λ m. both (c.bump-t.ensures.under _) c.if-t-ne0.false (cut (ends (c.bump_if-t.ensures.under _)) c.if-t-ne0-2.true) }
-
-pub any_body-requires : goal.any_body-requires
-any_body-requires c =
-    (c.bump_if-t.ensures.under 0).ready c.if-t-ne0-2.false
+returns-in_err-bump_if c =
+    record { under = λ m. thrown c.from_residual-in_err-bump_if.ensures (both (c.in_ok-bump.ensures.under _) (cut (cut (c.in_err-bump_if.ensures.under _)))) }
 
 pub returns : goal.returns
 unfolding item_struct
 returns c =
-    record { under = λ m. both (c.bump-t.ensures.under _) c.if-t-ne0.false (both (ends (c.bump_if-t.ensures.under _)) c.if-t-ne0-2.false (c.any_body.ensures.under _)) }
+    record { under = λ m. both (c.in_ok-bump.ensures.under _) (both (ends (c.in_ok-bump_if.ensures.under _)) (c.any_body.ensures.under _)) }

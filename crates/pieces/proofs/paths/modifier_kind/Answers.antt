@@ -1,80 +1,58 @@
 -- Written by tools/walk.py from the code and its program; docs/CONTRIBUTING.md says how.
 -- Assumes nothing.
+use Rattle.std.proofs.Math.Path.{refl}
+use Rattle.std.proofs.Common.{arith}
 use borrow.Author.Tests.{eq-eqb, ne_eqb}
 use Rattle.definition.specs.Grammar.{modifier_kind}
-use Rattle.tape.specs.Steps.{both, cut, if_yes, if_no, look, answered}
+use Rattle.tape.specs.Steps.{not_key, both, cut, thrown, ends, if_yes, if_no, look, nothing}
 use Rattle.pieces.proofs.paths.modifier_kind.Goals as goal
 
-pub peek-k-requires : goal.peek-k-requires
-peek-k-requires c =
-    c.requires.looks
-
-pub bump-t-requires : goal.bump-t-requires
-bump-t-requires c =
-    c.requires
-
-pub returns-then-t-ne0 : goal.returns-then-t-ne0
+pub returns-in_err-bump-in-3 : goal.returns-in_err-bump-in-3
 unfolding modifier_kind
-returns-then-t-ne0 c =
-    record { under = λ m. look c.peek-k.ensures (if_yes (eq-eqb _ _ c.if-k-eq-SUPER.true) (cut (c.bump-t.ensures.under _) c.if-t-ne0.true)) }
+returns-in_err-bump-in-3 c =
+    record { under = λ m. thrown c.from_residual.ensures (look c.peek.ensures (if_yes (eq-eqb _ _ c.in-3.is) (cut (c.in_err-bump-in-3.ensures.under _)))) }
 
-pub returns-then-k-eq-SUPER : goal.returns-then-k-eq-SUPER
+pub returns-in_err-bump-in-5 : goal.returns-in_err-bump-in-5
 unfolding modifier_kind
-returns-then-k-eq-SUPER c =
-    record { under = λ m. look c.peek-k.ensures (if_yes (eq-eqb _ _ c.if-k-eq-SUPER.true) (both (c.bump-t.ensures.under _) c.if-t-ne0.false (answered ((c.bump-t.ensures.under 0).ready c.if-t-ne0.false)))) }
+returns-in_err-bump-in-5 c =
+    record { under = λ m. thrown c.from_residual-in_err-bump-in-5.ensures (look c.peek.ensures (if_no (not_key 3 c.in-5.is refl) (if_yes (eq-eqb _ _ c.in-5.is) (cut (c.in_err-bump-in-5.ensures.under _))))) }
 
-pub bump-t-requires-then-k-eq-SELF_VALUE : goal.bump-t-requires-then-k-eq-SELF_VALUE
-bump-t-requires-then-k-eq-SELF_VALUE c =
-    c.requires
-
-pub returns-then-t-ne0-2 : goal.returns-then-t-ne0-2
+pub returns-in_err-bump-in-4 : goal.returns-in_err-bump-in-4
 unfolding modifier_kind
-returns-then-t-ne0-2 c =
-    record { under = λ m. look c.peek-k.ensures (if_no (ne_eqb _ _ c.if-k-eq-SUPER.false) (if_yes (eq-eqb _ _ c.if-k-eq-SELF_VALUE.true) (cut (c.bump-t-then-k-eq-SELF_VALUE.ensures.under _) c.if-t-ne0-2.true))) }
+returns-in_err-bump-in-4 c =
+    record { under = λ m. thrown c.from_residual-in_err-bump-in-4.ensures (look c.peek.ensures (if_no (not_key 3 c.in-4.is refl) (if_no (not_key 5 c.in-4.is refl) (if_yes (eq-eqb _ _ c.in-4.is) (cut (c.in_err-bump-in-4.ensures.under _)))))) }
 
-pub returns-then-k-eq-SELF_VALUE : goal.returns-then-k-eq-SELF_VALUE
+pub returns-in_err-bump-in-83 : goal.returns-in_err-bump-in-83
 unfolding modifier_kind
-returns-then-k-eq-SELF_VALUE c =
-    record { under = λ m. look c.peek-k.ensures (if_no (ne_eqb _ _ c.if-k-eq-SUPER.false) (if_yes (eq-eqb _ _ c.if-k-eq-SELF_VALUE.true) (both (c.bump-t-then-k-eq-SELF_VALUE.ensures.under _) c.if-t-ne0-2.false (answered ((c.bump-t-then-k-eq-SELF_VALUE.ensures.under 0).ready c.if-t-ne0-2.false))))) }
+returns-in_err-bump-in-83 c =
+    record { under = λ m. thrown c.from_residual-in_err-bump-in-83.ensures (look c.peek.ensures (if_no (not_key 3 c.in-83.is refl) (if_no (not_key 5 c.in-83.is refl) (if_no (not_key 4 c.in-83.is refl) (if_yes (eq-eqb _ _ c.in-83.is) (cut (c.in_err-bump-in-83.ensures.under _))))))) }
 
-pub bump-t-requires-then-k-eq-CRATE : goal.bump-t-requires-then-k-eq-CRATE
-bump-t-requires-then-k-eq-CRATE c =
-    c.requires
-
-pub returns-then-t-ne0-3 : goal.returns-then-t-ne0-3
+pub returns-in_err-path-in-83 : goal.returns-in_err-path-in-83
 unfolding modifier_kind
-returns-then-t-ne0-3 c =
-    record { under = λ m. look c.peek-k.ensures (if_no (ne_eqb _ _ c.if-k-eq-SUPER.false) (if_no (ne_eqb _ _ c.if-k-eq-SELF_VALUE.false) (if_yes (eq-eqb _ _ c.if-k-eq-CRATE.true) (cut (c.bump-t-then-k-eq-CRATE.ensures.under _) c.if-t-ne0-3.true)))) }
+returns-in_err-path-in-83 c =
+    record { under = λ m. thrown c.from_residual-in_err-path-in-83.ensures (look c.peek.ensures (if_no (not_key 3 c.in-83.is refl) (if_no (not_key 5 c.in-83.is refl) (if_no (not_key 4 c.in-83.is refl) (if_yes (eq-eqb _ _ c.in-83.is) (both (c.in_ok-bump-in-83.ensures.under _) (cut (c.in_err-path-in-83.ensures.under _)))))))) }
 
-pub returns-then-k-eq-CRATE : goal.returns-then-k-eq-CRATE
+pub returns-in_ok-bump-in-3 : goal.returns-in_ok-bump-in-3
 unfolding modifier_kind
-returns-then-k-eq-CRATE c =
-    record { under = λ m. look c.peek-k.ensures (if_no (ne_eqb _ _ c.if-k-eq-SUPER.false) (if_no (ne_eqb _ _ c.if-k-eq-SELF_VALUE.false) (if_yes (eq-eqb _ _ c.if-k-eq-CRATE.true) (both (c.bump-t-then-k-eq-CRATE.ensures.under _) c.if-t-ne0-3.false (answered ((c.bump-t-then-k-eq-CRATE.ensures.under 0).ready c.if-t-ne0-3.false)))))) }
+returns-in_ok-bump-in-3 c =
+    record { under = λ m. look c.peek.ensures (if_yes (eq-eqb _ _ c.in-3.is) (ends (c.in_ok-bump-in-3.ensures.under _))) }
 
-pub bump-t-requires-then-k-eq-IN : goal.bump-t-requires-then-k-eq-IN
-bump-t-requires-then-k-eq-IN c =
-    c.requires
-
-pub returns-then-t-ne0-4 : goal.returns-then-t-ne0-4
+pub returns-in_ok-bump-in-5 : goal.returns-in_ok-bump-in-5
 unfolding modifier_kind
-returns-then-t-ne0-4 c =
-    record { under = λ m. look c.peek-k.ensures (if_no (ne_eqb _ _ c.if-k-eq-SUPER.false) (if_no (ne_eqb _ _ c.if-k-eq-SELF_VALUE.false) (if_no (ne_eqb _ _ c.if-k-eq-CRATE.false) (if_yes (eq-eqb _ _ c.if-k-eq-IN.true) (cut (c.bump-t-then-k-eq-IN.ensures.under _) c.if-t-ne0-4.true))))) }
+returns-in_ok-bump-in-5 c =
+    record { under = λ m. look c.peek.ensures (if_no (not_key 3 c.in-5.is refl) (if_yes (eq-eqb _ _ c.in-5.is) (ends (c.in_ok-bump-in-5.ensures.under _)))) }
 
-pub path-t-requires : goal.path-t-requires
-path-t-requires c =
-    (c.bump-t-then-k-eq-IN.ensures.under 0).ready c.if-t-ne0-4.false
-
-pub returns-then-t-ne0-5 : goal.returns-then-t-ne0-5
+pub returns-in_ok-bump-in-4 : goal.returns-in_ok-bump-in-4
 unfolding modifier_kind
-returns-then-t-ne0-5 c =
-    record { under = λ m. look c.peek-k.ensures (if_no (ne_eqb _ _ c.if-k-eq-SUPER.false) (if_no (ne_eqb _ _ c.if-k-eq-SELF_VALUE.false) (if_no (ne_eqb _ _ c.if-k-eq-CRATE.false) (if_yes (eq-eqb _ _ c.if-k-eq-IN.true) (both (c.bump-t-then-k-eq-IN.ensures.under _) c.if-t-ne0-4.false (cut (c.path-t.ensures.under _) c.if-t-ne0-5.true)))))) }
+returns-in_ok-bump-in-4 c =
+    record { under = λ m. look c.peek.ensures (if_no (not_key 3 c.in-4.is refl) (if_no (not_key 5 c.in-4.is refl) (if_yes (eq-eqb _ _ c.in-4.is) (ends (c.in_ok-bump-in-4.ensures.under _))))) }
 
-pub returns-then-k-eq-IN : goal.returns-then-k-eq-IN
+pub returns-in_ok-path-in-83 : goal.returns-in_ok-path-in-83
 unfolding modifier_kind
-returns-then-k-eq-IN c =
-    record { under = λ m. look c.peek-k.ensures (if_no (ne_eqb _ _ c.if-k-eq-SUPER.false) (if_no (ne_eqb _ _ c.if-k-eq-SELF_VALUE.false) (if_no (ne_eqb _ _ c.if-k-eq-CRATE.false) (if_yes (eq-eqb _ _ c.if-k-eq-IN.true) (both (c.bump-t-then-k-eq-IN.ensures.under _) c.if-t-ne0-4.false (both (c.path-t.ensures.under _) c.if-t-ne0-5.false (answered ((c.path-t.ensures.under 0).ready c.if-t-ne0-5.false)))))))) }
+returns-in_ok-path-in-83 c =
+    record { under = λ m. look c.peek.ensures (if_no (not_key 3 c.in-83.is refl) (if_no (not_key 5 c.in-83.is refl) (if_no (not_key 4 c.in-83.is refl) (if_yes (eq-eqb _ _ c.in-83.is) (both (c.in_ok-bump-in-83.ensures.under _) (ends (c.in_ok-path-in-83.ensures.under _))))))) }
 
-pub returns : goal.returns
+pub returns-in_default : goal.returns-in_default
 unfolding modifier_kind
-returns c =
-    record { under = λ m. look c.peek-k.ensures (if_no (ne_eqb _ _ c.if-k-eq-SUPER.false) (if_no (ne_eqb _ _ c.if-k-eq-SELF_VALUE.false) (if_no (ne_eqb _ _ c.if-k-eq-CRATE.false) (if_no (ne_eqb _ _ c.if-k-eq-IN.false) (answered c.requires))))) }
+returns-in_default c =
+    record { under = λ m. look c.peek.ensures (if_no (ne_eqb _ _ (omega arith)) (if_no (ne_eqb _ _ (omega arith)) (if_no (ne_eqb _ _ (omega arith)) (if_no (ne_eqb _ _ (omega arith)) nothing)))) }

@@ -1,50 +1,34 @@
 -- Written by tools/walk.py from the code and its program; docs/CONTRIBUTING.md says how.
 -- Assumes nothing.
 use Rattle.definition.specs.Grammar.{modifier_paren}
-use Rattle.tape.specs.Steps.{marked_now, step_marked, both, cut, ends, scoped, unscoped}
+use Rattle.tape.specs.Steps.{marked_now, step_marked, both, cut, thrown_ran, ends, scoped, unscoped}
 use Rattle.pieces.proofs.paths.modifier_paren.Goals as goal
 
-pub mark-t-requires : goal.mark-t-requires
-mark-t-requires c =
-    c.requires
-
-pub returns-then-t-ne0 : goal.returns-then-t-ne0
+pub returns-in_err-c : goal.returns-in_err-c
 unfolding modifier_paren
-returns-then-t-ne0 c =
-    unscoped c.mark-t.ensures c.if-t-ne0.true
+returns-in_err-c c =
+    thrown_ran c.from_residual.ensures (unscoped c.in_err-c.ensures)
 
-pub bump-t-requires : goal.bump-t-requires
-bump-t-requires c =
-    (c.mark-t.ensures.under 0).ready c.if-t-ne0.false
-
-pub returns-then-t-ne0-2 : goal.returns-then-t-ne0-2
+pub returns-in_err-bump : goal.returns-in_err-bump
 unfolding modifier_paren
-returns-then-t-ne0-2 c =
-    scoped c.mark-t.ensures c.if-t-ne0.false (cut (c.bump-t.ensures.under _) c.if-t-ne0-2.true)
+returns-in_err-bump c =
+    thrown_ran c.from_residual-in_err-bump.ensures (scoped c.in_ok-c.ensures (cut (c.in_err-bump.ensures.under _)))
 
-pub modifier_kind-t-requires : goal.modifier_kind-t-requires
-modifier_kind-t-requires c =
-    (c.bump-t.ensures.under 0).ready c.if-t-ne0-2.false
-
-pub returns-then-t-ne0-3 : goal.returns-then-t-ne0-3
+pub returns-in_err-kind : goal.returns-in_err-kind
 unfolding modifier_paren
-returns-then-t-ne0-3 c =
-    scoped c.mark-t.ensures c.if-t-ne0.false (both (c.bump-t.ensures.under _) c.if-t-ne0-2.false (cut (c.modifier_kind-t.ensures.under _) c.if-t-ne0-3.true))
+returns-in_err-kind c =
+    thrown_ran c.from_residual-in_err-kind.ensures (scoped c.in_ok-c.ensures (both (c.in_ok-bump.ensures.under _) (cut (c.in_err-kind.ensures.under _))))
 
-pub bump_if-t-requires : goal.bump_if-t-requires
-bump_if-t-requires c =
-    (c.modifier_kind-t.ensures.under 0).ready c.if-t-ne0-3.false
-
-pub returns-then-t-ne0-4 : goal.returns-then-t-ne0-4
+pub returns-in_err-bump_if : goal.returns-in_err-bump_if
 unfolding modifier_paren
-returns-then-t-ne0-4 c =
-    scoped c.mark-t.ensures c.if-t-ne0.false (both (c.bump-t.ensures.under _) c.if-t-ne0-2.false (both (c.modifier_kind-t.ensures.under _) c.if-t-ne0-3.false (cut (ends (c.bump_if-t.ensures.under _)) c.if-t-ne0-4.true)))
+returns-in_err-bump_if c =
+    thrown_ran c.from_residual-in_err-bump_if.ensures (scoped c.in_ok-c.ensures (both (c.in_ok-bump.ensures.under _) (both (c.in_ok-kind.ensures.under _) (cut (cut (c.in_err-bump_if.ensures.under _))))))
 
 pub close_at-requires : goal.close_at-requires
 close_at-requires c =
-    (step_marked (c.bump_if-t.ensures.under _) c.if-t-ne0-4.false (step_marked (c.modifier_kind-t.ensures.under _) c.if-t-ne0-3.false (step_marked (c.bump-t.ensures.under _) c.if-t-ne0-2.false marked_now)), (c.bump_if-t.ensures.under 0).ready c.if-t-ne0-4.false)
+    step_marked (c.in_ok-bump_if.ensures.under _) (step_marked (c.in_ok-kind.ensures.under _) (step_marked (c.in_ok-bump.ensures.under _) (marked_now c.in_ok-c.ensures)))
 
 pub returns : goal.returns
 unfolding modifier_paren
 returns c =
-    scoped c.mark-t.ensures c.if-t-ne0.false (both (c.bump-t.ensures.under _) c.if-t-ne0-2.false (both (c.modifier_kind-t.ensures.under _) c.if-t-ne0-3.false (both (ends (c.bump_if-t.ensures.under _)) c.if-t-ne0-4.false c.close_at.ensures)))
+    scoped c.in_ok-c.ensures (both (c.in_ok-bump.ensures.under _) (both (c.in_ok-kind.ensures.under _) (both (ends (c.in_ok-bump_if.ensures.under _)) c.close_at.ensures)))

@@ -1,41 +1,29 @@
 -- Written by tools/walk.py from the code and its program; docs/CONTRIBUTING.md says how.
 -- Assumes nothing.
 use Rattle.definition.specs.Grammar.{attribute}
-use Rattle.tape.specs.Steps.{marked_now, step_marked, both, cut, scoped, unscoped}
+use Rattle.tape.specs.Steps.{marked_now, step_marked, both, cut, thrown_ran, scoped, unscoped}
 use Rattle.pieces.proofs.streams.attribute.Goals as goal
 
-pub mark-t-requires : goal.mark-t-requires
-mark-t-requires c =
-    c.requires
-
-pub returns-then-t-ne0 : goal.returns-then-t-ne0
+pub returns-in_err-c : goal.returns-in_err-c
 unfolding attribute
-returns-then-t-ne0 c =
-    unscoped c.mark-t.ensures c.if-t-ne0.true
+returns-in_err-c c =
+    thrown_ran c.from_residual.ensures (unscoped c.in_err-c.ensures)
 
-pub bump-t-requires : goal.bump-t-requires
-bump-t-requires c =
-    (c.mark-t.ensures.under 0).ready c.if-t-ne0.false
-
-pub returns-then-t-ne0-2 : goal.returns-then-t-ne0-2
+pub returns-in_err-bump : goal.returns-in_err-bump
 unfolding attribute
-returns-then-t-ne0-2 c =
-    scoped c.mark-t.ensures c.if-t-ne0.false (cut (c.bump-t.ensures.under _) c.if-t-ne0-2.true)
+returns-in_err-bump c =
+    thrown_ran c.from_residual-in_err-bump.ensures (scoped c.in_ok-c.ensures (cut (c.in_err-bump.ensures.under _)))
 
-pub attribute_stream-t-requires : goal.attribute_stream-t-requires
-attribute_stream-t-requires c =
-    (c.bump-t.ensures.under 0).ready c.if-t-ne0-2.false
-
-pub returns-then-t-ne0-3 : goal.returns-then-t-ne0-3
+pub returns-in_err-attribute_stream : goal.returns-in_err-attribute_stream
 unfolding attribute
-returns-then-t-ne0-3 c =
-    scoped c.mark-t.ensures c.if-t-ne0.false (both (c.bump-t.ensures.under _) c.if-t-ne0-2.false (cut (c.attribute_stream-t.ensures.under _) c.if-t-ne0-3.true))
+returns-in_err-attribute_stream c =
+    thrown_ran c.from_residual-in_err-attribute_stream.ensures (scoped c.in_ok-c.ensures (both (c.in_ok-bump.ensures.under _) (cut (c.in_err-attribute_stream.ensures.under _))))
 
 pub close_at-requires : goal.close_at-requires
 close_at-requires c =
-    (step_marked (c.attribute_stream-t.ensures.under _) c.if-t-ne0-3.false (step_marked (c.bump-t.ensures.under _) c.if-t-ne0-2.false marked_now), (c.attribute_stream-t.ensures.under 0).ready c.if-t-ne0-3.false)
+    step_marked (c.in_ok-attribute_stream.ensures.under _) (step_marked (c.in_ok-bump.ensures.under _) (marked_now c.in_ok-c.ensures))
 
 pub returns : goal.returns
 unfolding attribute
 returns c =
-    scoped c.mark-t.ensures c.if-t-ne0.false (both (c.bump-t.ensures.under _) c.if-t-ne0-2.false (both (c.attribute_stream-t.ensures.under _) c.if-t-ne0-3.false c.close_at.ensures))
+    scoped c.in_ok-c.ensures (both (c.in_ok-bump.ensures.under _) (both (c.in_ok-attribute_stream.ensures.under _) c.close_at.ensures))

@@ -1,38 +1,30 @@
 -- Written by tools/walk.py from the code and its program; docs/CONTRIBUTING.md says how.
 -- Assumes nothing.
-use borrow.Author.Tests.{eq-eqb, ne_eqb}
 use Rattle.definition.specs.Grammar.{attribute_stream}
-use Rattle.tape.specs.Steps.{both, cut, if_yes, if_no, nothing}
+use Rattle.tape.specs.Steps.{both, cut, thrown, if_yes, if_no, nothing}
 use Rattle.pieces.proofs.streams.attribute_stream.Goals as goal
 
-pub bump_if-t-requires : goal.bump_if-t-requires
-bump_if-t-requires c =
-    c.requires
-
-pub returns-then-t-ne0 : goal.returns-then-t-ne0
+pub returns-in_err-bump_if : goal.returns-in_err-bump_if
 unfolding attribute_stream
-returns-then-t-ne0 c =
-    record { under = λ m. cut (c.bump_if-t.ensures.under _) c.if-t-ne0.true }
+returns-in_err-bump_if c =
+    record { under = λ m. thrown c.from_residual.ensures (cut (c.in_err-bump_if.ensures.under _)) }
 
-pub token_stream-t-requires : goal.token_stream-t-requires
-token_stream-t-requires c =
-    (c.bump_if-t.ensures.under 0).ready c.if-t-ne0.false
-
-pub returns-then-t-ne0-2 : goal.returns-then-t-ne0-2
+pub returns-in_err-token_stream : goal.returns-in_err-token_stream
 unfolding attribute_stream
-returns-then-t-ne0-2 c =
-    record { under = λ m. both (c.bump_if-t.ensures.under _) c.if-t-ne0.false (if_yes (eq-eqb _ _ c.if-t-eq1.true) (cut (c.token_stream-t.ensures.under _) c.if-t-ne0-2.true)) }
+returns-in_err-token_stream c =
+    record { under = λ m. thrown c.from_residual-in_err-token_stream.ensures (both (c.in_ok-bump_if.ensures.under _) (if_yes c.if-branch.true (cut (c.in_err-token_stream.ensures.under _)))) }
 
-pub bump-requires : goal.bump-requires
-bump-requires c =
-    (c.token_stream-t.ensures.under 0).ready c.if-t-ne0-2.false
-
-pub returns-then-t-eq1 : goal.returns-then-t-eq1
+pub returns-in_err-bump : goal.returns-in_err-bump
 unfolding attribute_stream
-returns-then-t-eq1 c =
-    record { under = λ m. both (c.bump_if-t.ensures.under _) c.if-t-ne0.false (if_yes (eq-eqb _ _ c.if-t-eq1.true) (both (c.token_stream-t.ensures.under _) c.if-t-ne0-2.false (c.bump.ensures.under _))) }
+returns-in_err-bump c =
+    record { under = λ m. thrown c.from_residual-in_err-bump.ensures (both (c.in_ok-bump_if.ensures.under _) (if_yes c.if-branch.true (both (c.in_ok-token_stream.ensures.under _) (c.in_err-bump.ensures.under _)))) }
 
-pub returns : goal.returns
+pub returns-in_ok-bump : goal.returns-in_ok-bump
 unfolding attribute_stream
-returns c =
-    record { under = λ m. both (c.bump_if-t.ensures.under _) c.if-t-ne0.false (if_no (ne_eqb _ _ c.if-t-eq1.false) (nothing ((c.bump_if-t.ensures.under 0).ready c.if-t-ne0.false))) }
+returns-in_ok-bump c =
+    record { under = λ m. both (c.in_ok-bump_if.ensures.under _) (if_yes c.if-branch.true (both (c.in_ok-token_stream.ensures.under _) (c.in_ok-bump.ensures.under _))) }
+
+pub returns-else-branch : goal.returns-else-branch
+unfolding attribute_stream
+returns-else-branch c =
+    record { under = λ m. both (c.in_ok-bump_if.ensures.under _) (if_no c.if-branch.false nothing) }

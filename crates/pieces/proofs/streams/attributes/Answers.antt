@@ -1,44 +1,33 @@
 -- Written by tools/walk.py from the code and its program; docs/CONTRIBUTING.md says how.
 -- Assumes nothing.
-use mathlib.Core.Path.{refl, sym, ◌∙◌}
+use Rattle.std.proofs.Math.Path.{refl, sym}
+use Rattle.std.proofs.Common.{◌∙◌}
 use Rattle.definition.specs.Grammar.{attributes, while_turn}
 use Rattle.laws.specs.Progress.{attribute_further, glues_some}
-use Rattle.tape.specs.Steps.{burns, both, cut, if_yes, if_no, ask_glued, nothing, inv_start, inv_again, inv_end, last, last_cut}
+use Rattle.tape.specs.Steps.{burns, both, cut, thrown, if_yes, if_no, ask_glued, nothing, inv_start, inv_again, inv_end, last, last_cut}
 use Rattle.tape.specs.Counted.{goes_some}
 use Rattle.pieces.proofs.streams.attributes.Goals as goal
 
-pub loop-table-init : goal.loop-table-init
+pub loop-p-init : goal.loop-p-init
 unfolding attributes while_turn
-loop-table-init c =
-    record { ready = c.requires; under = λ m. inv_start }
+loop-p-init c =
+    record { under = λ m. inv_start }
 
-pub peek-requires : goal.peek-requires
-peek-requires c =
-    c.loop-table.invariant.ready.looks
+pub loop-p-smaller : goal.loop-p-smaller
+loop-p-smaller c =
+    burns (c.in_ok-attribute.ensures.under 0).kept (goes_some (c.in_ok-attribute.ensures.under 0) c.peek.ensures (glues_some _ _ _ _ refl (sym c.glues.ensures ∙ c.loop-p-test.true)) attribute_further)
 
-pub glued-requires : goal.glued-requires
-glued-requires c =
-    c.loop-table.invariant.ready.looks
-
-pub attribute-t-requires : goal.attribute-t-requires
-attribute-t-requires c =
-    c.loop-table.invariant.ready
-
-pub returns-then-t-ne0 : goal.returns-then-t-ne0
+pub loop-p-preserved : goal.loop-p-preserved
 unfolding attributes while_turn
-returns-then-t-ne0 c =
-    record { under = λ m. inv_end (c.loop-table.invariant.under _) (last_cut (ask_glued c.peek.ensures c.glued.ensures (if_yes (sym c.glues.ensures ∙ c.loop-table-test.true) (cut (c.attribute-t.ensures.under _) c.if-t-ne0.true))) c.if-t-ne0.true) }
+loop-p-preserved c =
+    record { under = λ m. inv_again (c.loop-p.invariant.under m) (ask_glued c.peek.ensures c.glued.ensures (if_yes (sym c.glues.ensures ∙ c.loop-p-test.true) (both (c.in_ok-attribute.ensures.under _) nothing))) (goes_some (c.in_ok-attribute.ensures.under 0) c.peek.ensures (glues_some _ _ _ _ refl (sym c.glues.ensures ∙ c.loop-p-test.true)) attribute_further) }
 
-pub loop-table-smaller : goal.loop-table-smaller
-loop-table-smaller c =
-    burns ((c.attribute-t.ensures.under 0).ready c.if-t-ne0.false) (goes_some (c.attribute-t.ensures.under 0) c.if-t-ne0.false c.peek.ensures (glues_some _ _ _ _ refl (sym c.glues.ensures ∙ c.loop-table-test.true)) attribute_further)
-
-pub loop-table-preserved : goal.loop-table-preserved
+pub returns-in_err-attribute : goal.returns-in_err-attribute
 unfolding attributes while_turn
-loop-table-preserved c =
-    record { ready = (c.attribute-t.ensures.under 0).ready c.if-t-ne0.false; under = λ m. inv_again (c.loop-table.invariant.under m) (ask_glued c.peek.ensures c.glued.ensures (if_yes (sym c.glues.ensures ∙ c.loop-table-test.true) (both (c.attribute-t.ensures.under _) c.if-t-ne0.false (nothing ((c.attribute-t.ensures.under 0).ready c.if-t-ne0.false))))) c.if-t-ne0.false (goes_some (c.attribute-t.ensures.under 0) c.if-t-ne0.false c.peek.ensures (glues_some _ _ _ _ refl (sym c.glues.ensures ∙ c.loop-table-test.true)) attribute_further) }
+returns-in_err-attribute c =
+    record { under = λ m. thrown c.from_residual.ensures (inv_end (c.loop-p.invariant.under _) (last_cut (ask_glued c.peek.ensures c.glued.ensures (if_yes (sym c.glues.ensures ∙ c.loop-p-test.true) (cut (c.in_err-attribute.ensures.under _)))))) }
 
 pub returns : goal.returns
 unfolding attributes while_turn
 returns c =
-    record { under = λ m. inv_end (c.loop-table.invariant.under _) (last (ask_glued c.peek.ensures c.glued.ensures (if_no (sym c.glues.ensures ∙ c.loop-table-test.false) (nothing c.loop-table.invariant.ready))) c.loop-table.invariant.ready.going) }
+    record { under = λ m. inv_end (c.loop-p.invariant.under _) (last (ask_glued c.peek.ensures c.glued.ensures (if_no (sym c.glues.ensures ∙ c.loop-p-test.false) nothing))) }

@@ -4,10 +4,10 @@ use Rattle.definition.specs.Grammar.{inner_attributes}
 use Rattle.tape.specs.Steps.{Loop, fuel}
 use Rattle.pieces.proofs.streams.inner_attributes.Given as goal
 
-abbrev pub invariant-loop-table : goal.invariant-loop-table
-invariant-loop-table l =
-    Loop inner_attributes inner_attributes l.initial.t l.t l.kinds l.lens l.initial.table l.table
+abbrev pub invariant-loop-p : goal.invariant-loop-p
+invariant-loop-p l =
+    Loop inner_attributes inner_attributes l.initial.p l.p
 
-abbrev pub decreases-loop-table : goal.decreases-loop-table
-decreases-loop-table l =
-    fuel l.t l.kinds
+abbrev pub decreases-loop-p : goal.decreases-loop-p
+decreases-loop-p l =
+    fuel l.p

@@ -1,24 +1,20 @@
 -- Written by tools/walk.py from the code and its program; docs/CONTRIBUTING.md says how.
 -- Assumes nothing.
-use native.Mathlib.Omega.{arith}
 use Rattle.definition.specs.Grammar.{label}
-use Rattle.tape.specs.Steps.{both, cut, ends}
+use Rattle.tape.specs.Steps.{both, cut, thrown, ends}
 use Rattle.pieces.proofs.streams.label.Goals as goal
 
-pub bump-t-requires : goal.bump-t-requires
-bump-t-requires c =
-    c.requires
-
-pub returns-then-t-ne0 : goal.returns-then-t-ne0
+pub returns-in_err-bump : goal.returns-in_err-bump
 unfolding label
-returns-then-t-ne0 c =
-    record { under = λ m. cut (c.bump-t.ensures.under _) c.if-t-ne0.true }
+returns-in_err-bump c =
+    record { under = λ m. thrown c.from_residual.ensures (cut (c.in_err-bump.ensures.under _)) }
 
-pub bump_while-requires : goal.bump_while-requires
-bump_while-requires c =
-    (omega arith, (c.bump-t.ensures.under 0).ready c.if-t-ne0.false)
+pub returns-in_err-bump_while : goal.returns-in_err-bump_while
+unfolding label
+returns-in_err-bump_while c =
+    record { under = λ m. thrown c.from_residual-in_err-bump_while.ensures (both (c.in_ok-bump.ensures.under _) (cut (c.in_err-bump_while.ensures.under _))) }
 
 pub returns : goal.returns
 unfolding label
 returns c =
-    record { under = λ m. both (c.bump-t.ensures.under _) c.if-t-ne0.false (ends (c.bump_while.ensures.under _)) }
+    record { under = λ m. both (c.in_ok-bump.ensures.under _) (ends (c.in_ok-bump_while.ensures.under _)) }

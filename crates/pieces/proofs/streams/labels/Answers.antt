@@ -1,41 +1,33 @@
 -- Written by tools/walk.py from the code and its program; docs/CONTRIBUTING.md says how.
 -- Assumes nothing.
-use native.Mathlib.Omega.{arith}
+use Rattle.std.proofs.Common.{arith}
 use borrow.Author.Tests.{eq-eqb, ne_eqb}
 use Rattle.definition.specs.Grammar.{labels, while_turn}
 use Rattle.laws.specs.Progress.{label_further}
-use Rattle.tape.specs.Steps.{burns, both, cut, if_yes, if_no, ask, nothing, inv_start, inv_again, inv_end, last, last_cut}
+use Rattle.tape.specs.Steps.{burns, both, cut, thrown, if_yes, if_no, ask, nothing, inv_start, inv_again, inv_end, last, last_cut}
 use Rattle.tape.specs.Counted.{goes_some}
 use Rattle.pieces.proofs.streams.labels.Goals as goal
 
-pub loop-table-init : goal.loop-table-init
+pub loop-p-init : goal.loop-p-init
 unfolding labels while_turn
-loop-table-init c =
-    record { ready = c.requires; under = λ m. inv_start }
+loop-p-init c =
+    record { under = λ m. inv_start }
 
-pub peek-requires : goal.peek-requires
-peek-requires c =
-    c.loop-table.invariant.ready.looks
+pub loop-p-smaller : goal.loop-p-smaller
+loop-p-smaller c =
+    burns (c.in_ok-label.ensures.under 0).kept (goes_some (c.in_ok-label.ensures.under 0) c.peek.ensures (λ z. omega (arith, c.loop-p-test.true)) label_further)
 
-pub label-t-requires : goal.label-t-requires
-label-t-requires c =
-    c.loop-table.invariant.ready
-
-pub returns-then-t-ne0 : goal.returns-then-t-ne0
+pub loop-p-preserved : goal.loop-p-preserved
 unfolding labels while_turn
-returns-then-t-ne0 c =
-    record { under = λ m. inv_end (c.loop-table.invariant.under _) (last_cut (ask c.peek.ensures (if_yes (eq-eqb _ _ c.loop-table-test.true) (cut (c.label-t.ensures.under _) c.if-t-ne0.true))) c.if-t-ne0.true) }
+loop-p-preserved c =
+    record { under = λ m. inv_again (c.loop-p.invariant.under m) (ask c.peek.ensures (if_yes (eq-eqb _ _ c.loop-p-test.true) (both (c.in_ok-label.ensures.under _) nothing))) (goes_some (c.in_ok-label.ensures.under 0) c.peek.ensures (λ z. omega (arith, c.loop-p-test.true)) label_further) }
 
-pub loop-table-smaller : goal.loop-table-smaller
-loop-table-smaller c =
-    burns ((c.label-t.ensures.under 0).ready c.if-t-ne0.false) (goes_some (c.label-t.ensures.under 0) c.if-t-ne0.false c.peek.ensures (λ z. omega (arith, c.loop-table-test.true)) label_further)
-
-pub loop-table-preserved : goal.loop-table-preserved
+pub returns-in_err-label : goal.returns-in_err-label
 unfolding labels while_turn
-loop-table-preserved c =
-    record { ready = (c.label-t.ensures.under 0).ready c.if-t-ne0.false; under = λ m. inv_again (c.loop-table.invariant.under m) (ask c.peek.ensures (if_yes (eq-eqb _ _ c.loop-table-test.true) (both (c.label-t.ensures.under _) c.if-t-ne0.false (nothing ((c.label-t.ensures.under 0).ready c.if-t-ne0.false))))) c.if-t-ne0.false (goes_some (c.label-t.ensures.under 0) c.if-t-ne0.false c.peek.ensures (λ z. omega (arith, c.loop-table-test.true)) label_further) }
+returns-in_err-label c =
+    record { under = λ m. thrown c.from_residual.ensures (inv_end (c.loop-p.invariant.under _) (last_cut (ask c.peek.ensures (if_yes (eq-eqb _ _ c.loop-p-test.true) (cut (c.in_err-label.ensures.under _)))))) }
 
 pub returns : goal.returns
 unfolding labels while_turn
 returns c =
-    record { under = λ m. inv_end (c.loop-table.invariant.under _) (last (ask c.peek.ensures (if_no (ne_eqb _ _ c.loop-table-test.false) (nothing c.loop-table.invariant.ready))) c.loop-table.invariant.ready.going) }
+    record { under = λ m. inv_end (c.loop-p.invariant.under _) (last (ask c.peek.ensures (if_no (ne_eqb _ _ c.loop-p-test.false) nothing))) }

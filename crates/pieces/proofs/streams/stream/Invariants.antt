@@ -4,7 +4,7 @@ use Rattle.kinds.specs.Matchers.{matcher_of}
 use Rattle.pieces.proofs.streams.stream.Given as goal
 
 abbrev pub invariant-loop-m : goal.invariant-loop-m
-invariant-loop-m l = Streaming (matcher_of l.m) l.level l.initial.t l.t l.kinds l.lens l.initial.table l.table
+invariant-loop-m l = Streaming (matcher_of l.m) l.level l.initial.p l.p
 
 abbrev pub decreases-loop-m : goal.decreases-loop-m
-decreases-loop-m l = fuel l.t l.kinds
+decreases-loop-m l = fuel l.p

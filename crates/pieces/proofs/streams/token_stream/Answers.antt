@@ -1,32 +1,24 @@
 -- Written by tools/walk.py from the code and its program; docs/CONTRIBUTING.md says how.
 -- Assumes nothing.
 use Rattle.definition.specs.Grammar.{token_stream}
-use Rattle.tape.specs.Steps.{marked_now, step_marked, both, cut, scoped, unscoped}
+use Rattle.tape.specs.Steps.{marked_now, step_marked, both, cut, thrown_ran, scoped, unscoped}
 use Rattle.pieces.proofs.streams.token_stream.Goals as goal
 
-pub mark-t-requires : goal.mark-t-requires
-mark-t-requires c =
-    c.requires
-
-pub returns-then-t-ne0 : goal.returns-then-t-ne0
+pub returns-in_err-c : goal.returns-in_err-c
 unfolding token_stream
-returns-then-t-ne0 c =
-    unscoped c.mark-t.ensures c.if-t-ne0.true
+returns-in_err-c c =
+    thrown_ran c.from_residual.ensures (unscoped c.in_err-c.ensures)
 
-pub stream-t-requires : goal.stream-t-requires
-stream-t-requires c =
-    (c.mark-t.ensures.under 0).ready c.if-t-ne0.false
-
-pub returns-then-t-ne0-2 : goal.returns-then-t-ne0-2
+pub returns-in_err-stream : goal.returns-in_err-stream
 unfolding token_stream
-returns-then-t-ne0-2 c =
-    scoped c.mark-t.ensures c.if-t-ne0.false (cut (c.stream-t.ensures.under _) c.if-t-ne0-2.true)
+returns-in_err-stream c =
+    thrown_ran c.from_residual-in_err-stream.ensures (scoped c.in_ok-c.ensures (cut (c.in_err-stream.ensures.under _)))
 
 pub close_at-requires : goal.close_at-requires
 close_at-requires c =
-    (step_marked (c.stream-t.ensures.under _) c.if-t-ne0-2.false marked_now, (c.stream-t.ensures.under 0).ready c.if-t-ne0-2.false)
+    step_marked (c.in_ok-stream.ensures.under _) (marked_now c.in_ok-c.ensures)
 
 pub returns : goal.returns
 unfolding token_stream
 returns c =
-    scoped c.mark-t.ensures c.if-t-ne0.false (both (c.stream-t.ensures.under _) c.if-t-ne0-2.false c.close_at.ensures)
+    scoped c.in_ok-c.ensures (both (c.in_ok-stream.ensures.under _) c.close_at.ensures)

@@ -1,33 +1,37 @@
-use Rattle.tape.specs.Rows.{length_rows}
-use Rattle.laws.specs.Looking.{skipped_le}
-use lib.ListN.{length}
-use Rattle.tape.proofs.Writes.{cap_few, in_table, rows_in_table, close_wrote, close_full}
-use native.Mathlib.Omega.{arith}
-use mathlib.Core.Path.{refl}
+use Rattle.std.proofs.Common.{arith, refl, length, ◌<◌}
+use Rattle.definition.specs.Tape.{capacity}
+use Rattle.tape.proofs.Writes.{cap_few, in_table, rows_fit, mark_low, node_len, node_is, node_ready, node_full}
 use Rattle.tape.proofs.Tape.close_at.Goals as goal
 
-pub start_of-start-requires : goal.start_of-start-requires
-start_of-start-requires c = rows_in_table c.requires.1
+pub returns-then-rows-capacity : goal.returns-then-rows-capacity
+returns-then-rows-capacity c = node_full c.args.self.now c.requires c.args.kind _ (omega (arith, c.capacity.ensures)) c.refusal.ensures
 
 pub overflow_sub-rows : goal.overflow_sub-rows
-overflow_sub-rows c = omega (arith, c.requires.0.based.low, length_rows c.args.self.rows c.args.table.now)
+overflow_sub-rows c = mark_low c.args.self.now c.requires
 
 pub overflow_cast-rows : goal.overflow_cast-rows
-overflow_cast-rows c = omega (arith, c.capacity.ensures, cap_few (length c.args.table.now))
+overflow_cast-rows c = omega (arith, rows_fit c.args.self.now, cap_few (length c.args.self.now.table.now))
 
-pub overflow_sub-self : goal.overflow_sub-self
-overflow_sub-self c = omega (arith, c.start_of-start.ensures, c.requires.0.based.sum)
+pub overflow_sub-len : goal.overflow_sub-len
+overflow_sub-len c = omega (arith, c.start_of-start.ensures, c.requires.based.sum)
 
 pub write_row-requires : goal.write_row-requires
-write_row-requires c = in_table c.args.self.rows c.args.table.now (omega (arith, c.capacity.ensures))
+write_row-requires c = in_table c.args.self.now (omega (arith, c.capacity.ensures))
 
-pub returns-then-rows-capacity : goal.returns-then-rows-capacity
-returns-then-rows-capacity c =
-    close_wrote c.requires.1 c.requires.0 c.args.kind _ _ _ c.start_of-start.ensures (omega (arith, c.capacity.ensures)) c.write_row.ensures refl
-
-pub refuse-requires : goal.refuse-requires
-refuse-requires c =
-    omega (arith, c.requires.1.looks.next, skipped_le c.args.kinds.now c.args.self.at c.requires.1.looks.end, c.requires.1.looks.few)
+pub invariant_of-self : goal.invariant_of-self
+invariant_of-self c =
+    let t = c.args.self.now in
+    let r : t.rows < capacity (length t.table.now) = omega (arith, c.capacity.ensures) in
+    record { ready = node_ready t c.requires c.args.kind _ c.start_of-start.ensures r c.write_row.ensures }
 
 pub returns : goal.returns
-returns c = close_full c.requires.1 c.requires.0 c.args.kind _ (omega (arith, c.capacity.ensures)) c.refuse.ensures
+returns c =
+    let t = c.args.self.now in
+    let r : t.rows < capacity (length t.table.now) = omega (arith, c.capacity.ensures) in
+    record {
+      is = node_is t c.requires c.args.kind _ c.start_of-start.ensures r c.write_row.ensures;
+      kept = record {
+        same = record { kinds = refl; lens = refl; len = node_len t c.requires c.args.kind _ c.start_of-start.ensures r c.write_row.ensures; name = refl };
+        left = refl;
+      };
+    }

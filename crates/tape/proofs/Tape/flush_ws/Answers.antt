@@ -1,28 +1,19 @@
-use Rattle.tape.proofs.Writes.{flushing_start, flushing_in, flushing_go, flushing_stop, flushing_end}
-use native.Mathlib.Omega.{arith}
-use mathlib.Core.Path.{◌∙◌}
+use Rattle.std.proofs.Common.{arith}
+use Rattle.tape.specs.Steps.{thrown_ran}
+use Rattle.tape.proofs.Writes.{pending, stays, flushing_go, flushing_stop, flushing_end}
 use Rattle.tape.proofs.Tape.flush_ws.Goals as goal
 
-pub loop-t-init : goal.loop-t-init
-loop-t-init c = flushing_start c.requires
+pub leaf-requires : goal.leaf-requires
+leaf-requires c = pending c.loop-self.self c.loop-self-test.true
 
-pub leaf-t-requires : goal.leaf-t-requires
-leaf-t-requires c = (flushing_in c.loop-t.invariant c.loop-t-test.true, c.loop-t.invariant.ready)
+pub loop-self-smaller : goal.loop-self-smaller
+loop-self-smaller c = omega (arith, stays c.in_ok-leaf.ensures c.loop-self-test.true, c.in_ok-leaf.ensures.at)
 
-pub shape_of-table-then-t-ne0 : goal.shape_of-table-then-t-ne0
-shape_of-table-then-t-ne0 c = c.leaf-t.ensures.len ∙ c.loop-t.invariant.len
+pub loop-self-preserved : goal.loop-self-preserved
+loop-self-preserved c = flushing_go c.loop-self.invariant c.in_ok-leaf.ensures c.loop-self-test.true
 
-pub returns-then-t-ne0 : goal.returns-then-t-ne0
-returns-then-t-ne0 c = flushing_stop c.requires c.loop-t.invariant c.leaf-t.ensures c.loop-t-test.true c.if-t-ne0.true
-
-pub loop-t-smaller : goal.loop-t-smaller
-loop-t-smaller c = omega (arith, c.leaf-t.ensures.next, c.leaf-t.ensures.at c.if-t-ne0.false)
-
-pub loop-t-preserved : goal.loop-t-preserved
-loop-t-preserved c = flushing_go c.loop-t.invariant c.leaf-t.ensures c.loop-t-test.true c.if-t-ne0.false
-
-pub shape_of-table : goal.shape_of-table
-shape_of-table c = c.loop-t.invariant.len
+pub returns-in_err-leaf : goal.returns-in_err-leaf
+returns-in_err-leaf c = thrown_ran c.from_residual.ensures (flushing_stop c.loop-self.invariant c.in_err-leaf.ensures c.loop-self-test.true)
 
 pub returns : goal.returns
-returns c = flushing_end c.requires c.loop-t.invariant (omega arith)
+returns c = flushing_end c.loop-self.invariant (omega arith)

@@ -1,29 +1,24 @@
-use Rattle.definition.specs.Tape.{glued_kind}
+use Rattle.std.proofs.Common.{ℕ, ◌+◌, ◌≡◌, get_or, ap, sym, ◌∙◌, arith}
 use Rattle.definition.specs.Classes.{treated}
-use Rattle.laws.specs.Looking.{skipped, glued_apart, glued_next, glued_end, skipped_le}
-use lib.ListN.{get_or}
-use native.Mathlib.Omega.{arith}
-use mathlib.Core.Path.{◌≡◌, sym, ap, ◌∙◌}
-use Prim.Native.Nat.{ℕ, ◌+◌}
+use Rattle.definition.specs.Tape.{glued_kind}
+use Rattle.laws.specs.Looking.{skipped, skipped_le, glued_apart}
+use Rattle.tape.proofs.Glued.{glued_same}
 use Rattle.tape.proofs.Tape.glued.Goals as goal
 
 pub overflow_add-self : goal.overflow_add-self
-overflow_add-self c = omega (arith, c.requires.next, skipped_le c.args.kinds.now c.args.self.at c.requires.end, c.requires.few)
+overflow_add-self c =
+    let t = c.args.self.now in
+    omega (arith, t.ready.next, skipped_le t.kinds.now t.at t.ready.fits.end, t.ready.sized.few)
 
-pub returns-then-second-self : goal.returns-then-second-self
-returns-then-second-self c =
-    let ks = c.args.kinds.now in
-    let e : c.args.self.next + 1 ≡ skipped c.args.self.at ks + 1 = omega (arith, c.requires.next) in
-    sym (glued_apart ks (c.args.self.next + 1) (λ x. c.if-second-self.true (c.requires.second ∙ x))) ∙ ap (λ (n : ℕ). glued_kind (get_or ks n 0)) e
-
-pub returns-then-second-kinds : goal.returns-then-second-kinds
-returns-then-second-kinds c =
-    let ks = c.args.kinds.now in
-    let e : c.args.self.next + 1 ≡ skipped c.args.self.at ks + 1 = omega (arith, c.requires.next) in
-    (c.treated.ensures ∙ ap (λ (n : ℕ). treated (get_or ks n 0)) c.if-second-self.false) ∙ (sym (glued_next ks (c.args.self.next + 1) (sym c.requires.second ∙ c.if-second-self.false) (omega arith)) ∙ ap (λ (n : ℕ). glued_kind (get_or ks n 0)) e)
+pub returns-then-self : goal.returns-then-self
+returns-then-self c =
+    let t = c.args.self.now in
+    let e : t.next + 1 ≡ skipped t.at t.kinds.now + 1 = omega (arith, t.ready.next) in
+    sym (glued_apart t.kinds.now (t.next + 1) (λ x. c.if-self.true (t.ready.second ∙ x))) ∙ ap (λ (n : ℕ). glued_kind (get_or t.kinds.now n 0)) e
 
 pub returns : goal.returns
 returns c =
-    let ks = c.args.kinds.now in
-    let e : c.args.self.next + 1 ≡ skipped c.args.self.at ks + 1 = omega (arith, c.requires.next) in
-    sym (glued_end ks (c.args.self.next + 1) (omega arith)) ∙ ap (λ (n : ℕ). glued_kind (get_or ks n 0)) e
+    let t = c.args.self.now in
+    let e : t.next + 1 ≡ skipped t.at t.kinds.now + 1 = omega (arith, t.ready.next) in
+    (c.kind_at.ensures ∙ ap (λ (n : ℕ). treated (get_or t.kinds.now n 0)) c.if-self.false) ∙
+    (sym (glued_same t.kinds.now (t.next + 1) (sym t.ready.second ∙ c.if-self.false)) ∙ ap (λ (n : ℕ). glued_kind (get_or t.kinds.now n 0)) e)

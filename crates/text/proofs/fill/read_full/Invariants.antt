@@ -1,5 +1,5 @@
 -- What was read stands at the buffer's front.
-use Rattle.std.proofs.Common.{◌-◌, ◌≤◌, ◌≡◌, length, take}
+use Rattle.std.proofs.Common.{◌-◌, ◌≤◌, length, take}
 use Rattle.std.specs.Io.KnownBytes.{Consumes}
 use Rattle.text.proofs.fill.read_full.Given as goal
 

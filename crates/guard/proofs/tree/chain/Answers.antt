@@ -1,9 +1,0 @@
-use Rattle.std.proofs.Common.{rules}
-use Rattle.text.specs.Written.{grows_trans}
-use Rattle.guard.proofs.tree.chain.Goals as goal
-
-pub loop-row-preserved-in-Continue-1 : goal.loop-row-preserved-in-Continue-1
-loop-row-preserved-in-Continue-1 g c = search (rules, grows_trans)
-
-pub returns-in_err-print_row : goal.returns-in_err-print_row
-returns-in_err-print_row g c = search (rules, grows_trans)
