@@ -1,3 +1,3 @@
 mod Glued
 mod Starts
-mod Writes
+pub mod Writes

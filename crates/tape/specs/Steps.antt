@@ -13,10 +13,10 @@ use Rattle.definition.specs.Parse.{run}
 use Rattle.laws.specs.Kept.{After}
 use Rattle.laws.specs.Unroll.{unroll}
 use Rattle.laws.specs.Sizes.{Went, went, Based, based_now}
-use Rattle.laws.specs.Looking.{skipped, seen}
+use Rattle.laws.specs.Looking.{skipped, skipped_le, seen}
 use Rattle.laws.specs.Moves.{bump_end}
 use Rattle.tape.specs.Numbers.{number_of}
-use Rattle.tape.specs.View.{given, state_of, Marked, Same, Kept, Step, Ran, Marks, Refuses}
+use Rattle.tape.specs.View.{given, state_of, instead, Marked, Same, Kept, Step, Ran, Marks, Refuses}
 use Rattle.tape.specs.Rows.{length_rows}
 use Rattle.tape.specs.declared.refusal.Reason.{Reason}
 use Rattle.tape.specs.declared.refusal.Refusal.{Refusal}
@@ -164,20 +164,36 @@ module _ {m : ℕ} where
   pub nothing_as : {A : Type 0} {a b : A} {t : Tape} → a ≡ b → Step m (done a) (Ok b) t t
   nothing_as {b = b} {t = t} e = subst (λ (x : _). Step m (done x) (Ok b) t t) (sym e) nothing
 
+  -- a call whose answer is another one's, or that is refused
+  pub ends_as : {A B : Type 0} {p : Prog A} (o : Result A Refusal) {b : B} {t r : Tape} → Step m p o t r → Step m (seq p (λ x. done b)) (instead b o) t r
+  ends_as (Ok a) w = both w nothing
+  ends_as (Err e) w = cut w
+
   -- a call whose answer is dropped
   pub ends : {A B : Type 0} {p : Prog A} {a : A} {b : B} {t r : Tape} → Step m p (Ok a) t r → Step m (seq p (λ x. done b)) (Ok b) t r
   ends w = both w nothing
 
-  -- a refusal of the code's own
-  pub halt : {A : Type 0} {n pl : ℕ} {e : Refusal} {t : Tape} → number_of e.reason ≡ n → e.place ≡ pl → Step {A = A} m (stop n pl) (Err e) t t
+  -- a refusal of the code's own, whatever it wrote before
+  pub halt_at : {A : Type 0} {n pl : ℕ} {e : Refusal} {t r : Tape} → number_of e.reason ≡ n → e.place ≡ pl → Kept t r → Step {A = A} m (stop n pl) (Err e) t r
   unfolding run eval
-  halt h g = record { is = rw (h, g); kept = kept_self }
+  halt_at h g k = record { is = rw (h, g); kept = k }
+
+  pub halt : {A : Type 0} {n pl : ℕ} {e : Refusal} {t : Tape} → number_of e.reason ≡ n → e.place ≡ pl → Step {A = A} m (stop n pl) (Err e) t t
+  halt h g = halt_at h g kept_self
 
   -- at the next token
   pub refuses : {A : Type 0} {n : ℕ} {e : Refusal} {reason : Reason} {t : Tape} → Refuses reason e t → number_of reason ≡ n → Step {A = A} m (seq here (λ pl. stop n pl)) (Err e) t t
   refuses w h = spot (sym (sym w.place)) (halt (ap number_of w.reason ∙ h) refl)
 
+-- the place of the next token fits 16 bits
+pub here_few : (t : Tape) → t.next ≤ 65535
+here_few t = omega (arith, t.ready.next, skipped_le t.kinds.now t.at t.ready.fits.end, t.ready.sized.few)
+
 -- ## Scopes
+
+-- the row count is a mark
+pub marked_rows : {t : Tape} → Marked t.rows t
+marked_rows {t} = record { based = subst (λ (n : ℕ). Based n (state_of t)) (length_rows t.rows t.table.now) (based_now (state_of t)) }
 
 module _ {t r : Tape} where
   marks_ok : {c : ℕ} → Marks (Ok c) t r → (m : ℕ) → ok tt (state_of r) ≡ run (given t) t.left m flush (state_of t)
@@ -188,7 +204,7 @@ module _ {t r : Tape} where
 
   -- a mark that was just taken
   pub marked_now : {c : ℕ} → Marks (Ok c) t r → Marked c r
-  marked_now w = record { based = subst (λ (n : ℕ). Based n (state_of r)) (mark_is w) (based_now (state_of r)) }
+  marked_now w = subst (λ (n : ℕ). Marked n r) (sym w.mark) marked_rows
 
   module _ {A : Type 0} (q : Mark → Prog A) (m : ℕ) where
     scope_ok : {c : ℕ} → Marks (Ok c) t r → run (given t) t.left c (q (mark c)) (state_of r) ≡ run (given t) t.left m (scope q) (state_of t)
@@ -240,8 +256,11 @@ pub record Onward (t r : Tape) : Type 0 where
 further : {n x y : ℕ} → y ≤ n → x < y → n - y < n - x
 further h g = omega arith
 
+pub burns_same : {t r : Tape} → r.kinds.now ≡ t.kinds.now → Onward t r → fuel r < fuel t
+burns_same {r = r} e h = rw (← e) (further r.ready.fits.end h.goes)
+
 pub burns : {t r : Tape} → Kept t r → Onward t r → fuel r < fuel t
-burns {r = r} k h = rw (← k.same.kinds) (further r.ready.fits.end h.goes)
+burns k h = burns_same k.same.kinds h
 
 module _ {m : ℕ} where
   pub inv_start : {A : Type 0} {p : Prog A} {t : Tape} → Inv m p p t t

@@ -8,16 +8,19 @@ mod steps; // steps.rt: small steps of the rules, made of those
 mod counted; // counted.rt: the entries of the counted rules
 
 ghost use Rattle.std.specs.Prelude.{◌≡◌, ◌≤◌, length};
+ghost use Rattle.definition.specs.Tape.{capacity as capacity_of};
 ghost use Rattle.tape.specs.Ready.{Ready, Sized};
 
 use look::skip;
+use write::capacity;
 
-// It is passed on by one reference. No field is there that another can stand for, the widest come first, and there is no padding.
+// It is passed on by one reference. No field is there that another can stand for, but `room`, which is asked for at each row; the widest come first.
 #[derive(Drop)]
 pub struct Tape<'a> {
     kinds: &'a [u8],
     lens: &'a [u32],
     table: &'a mut [u32],
+    room: usize, // how many rows the table holds
     at: usize, // the next token not yet written, trivia included
     next: usize, // the next one that is no trivia ("here"), or the token count
     second: usize, // the next after that one, or past the end
@@ -26,6 +29,7 @@ pub struct Tape<'a> {
     left: u16, // entries of the counted rules that are left
     // The lists are within the sizes, the places are what the tokens say, and the rows and bytes are those of the tokens written.
     ghost ready: { Ready kinds.now lens.now table.now at next second rows byte },
+    ghost holds: { room ≡ capacity_of (length table.now) },
 }
 
 impl<'a> Tape<'a> {
@@ -39,10 +43,12 @@ impl<'a> Tape<'a> {
     {
         let next = skip(0, kinds);
         let second = skip(next + 1, kinds);
+        let room = capacity(table.len());
         Tape {
             kinds,
             lens,
             table,
+            room,
             at: 0,
             next,
             second,

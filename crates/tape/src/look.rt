@@ -12,12 +12,22 @@ use kinds::classes::{is_trivia, treated};
 
 // The place of the first token from `at` on that is no trivia, or the token count. (A `while`: `at` may lie past the end, where a part of the list or an
 // iterator would want a case of its own, and a place is wanted, not a count.)
-pub(super) fn skip(at: usize, kinds: &[u8]) -> usize
+fn skip_rest(at: usize, kinds: &[u8]) -> usize
     ensures { result ≡ skipped at kinds.now }
 {
     let mut at = at;
     while at < kinds.len() && is_trivia(kinds[at]) {
         at += 1;
+    }
+    at
+}
+
+// The same. Mostly no trivia stands at `at`, and then no loop is begun.
+pub(super) fn skip(at: usize, kinds: &[u8]) -> usize
+    ensures { result ≡ skipped at kinds.now }
+{
+    if at < kinds.len() && is_trivia(kinds[at]) {
+        return skip_rest(at + 1, kinds);
     }
     at
 }

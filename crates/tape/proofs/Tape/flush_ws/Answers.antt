@@ -1,19 +1,32 @@
-use Rattle.std.proofs.Common.{arith}
-use Rattle.tape.specs.Steps.{thrown_ran}
-use Rattle.tape.proofs.Writes.{pending, stays, flushing_go, flushing_stop, flushing_end}
+use Rattle.std.proofs.Common.{refl}
+use Rattle.tape.proofs.Writes.{pending, flush_none, flush_ready, flush_all, flush_full}
 use Rattle.tape.proofs.Tape.flush_ws.Goals as goal
 
-pub leaf-requires : goal.leaf-requires
-leaf-requires c = pending c.loop-self.self c.loop-self-test.true
+pub returns-then-self-next : goal.returns-then-self-next
+returns-then-self-next c = flush_none c.args.self.now c.if-self-next.true
 
-pub loop-self-smaller : goal.loop-self-smaller
-loop-self-smaller c = omega (arith, stays c.in_ok-leaf.ensures c.loop-self-test.true, c.in_ok-leaf.ensures.at)
+pub leaves-to-requires : goal.leaves-to-requires
+leaves-to-requires c = (pending c.args.self.now, c.args.self.now.holds)
 
-pub loop-self-preserved : goal.loop-self-preserved
-loop-self-preserved c = flushing_go c.loop-self.invariant c.in_ok-leaf.ensures c.loop-self-test.true
+pub invariant_of-self : goal.invariant_of-self
+invariant_of-self c = record { ready = flush_ready c.args.self.now c.leaves-to.ensures; holds = rw c.leaves-to.ensures.writes.len c.args.self.now.holds }
 
-pub returns-in_err-leaf : goal.returns-in_err-leaf
-returns-in_err-leaf c = thrown_ran c.from_residual.ensures (flushing_stop c.loop-self.invariant c.in_err-leaf.ensures c.loop-self-test.true)
+pub returns-then-to-next : goal.returns-then-to-next
+returns-then-to-next c =
+    record {
+      under = λ m.
+          record {
+            is = flush_all c.args.self.now c.leaves-to.ensures c.if-to-next.true m;
+            kept = record { same = record { kinds = refl; lens = refl; len = c.leaves-to.ensures.writes.len; name = refl }; left = refl };
+          };
+    }
 
 pub returns : goal.returns
-returns c = flushing_end c.loop-self.invariant (omega arith)
+returns c =
+    record {
+      under = λ m.
+          record {
+            is = flush_full c.args.self.now c.leaves-to.ensures c.if-to-next.false c.refusal.ensures.reason c.refusal.ensures.place m;
+            kept = record { same = record { kinds = refl; lens = refl; len = c.leaves-to.ensures.writes.len; name = refl }; left = refl };
+          };
+    }
