@@ -1,13 +1,14 @@
 -- What the functions of the loop come to: a job's outcome, its rows put into the table.
 -- Assumes nothing.
 use Rattle.std.specs.Prelude.{ℕ, ◌+◌, ◌-◌, ◌*◌, ◌≤◌, ◌<◌, ◌≡◌, Option, Some, None, MatchOption, unwrap_or, refl, Bool, true, false, not, ◌&&◌, List, ◌++◌, length, take, drop, leb, Result, Err}
-use Rattle.std.proofs.Common.{ap, sym, ◌∙◌, append-nil, arith, length-append, length-drop, drop_of_length-le, length-take-le}
+use Rattle.std.proofs.Common.{ap, sym, ◌∙◌, append-nil, arith, length-append, length-drop, drop_of_length-le, length-take-le, leb-true}
 use Rattle.std.proofs.Math.Seq.{take-append-add}
 use Rattle.std.proofs.lemmas.Bool.{not-true, not-false}
 use borrow.Rule.Slice.PartMut.{put_mid}
 use Rattle.definition.specs.Tape.{Out, refused, guard}
 use Rattle.definition.specs.Parse.{parse, flat, rows_of}
 use Rattle.definition.specs.Night.{entry_of, part, outcome}
+use Rattle.laws.specs.Bools.{and_second}
 use Rattle.tape.specs.declared.refusal.Reason.{Reason}
 use Rattle.tape.specs.declared.refusal.Refusal.{Refusal}
 use Rattle.entry.specs.declared.Entry.{Entry}
@@ -25,6 +26,9 @@ use Rattle.night.specs.Rounds.{Runs, answer_of, Done}
 -- as the code finds it
 abbrev pub Inside : Job → ℕ → Bool
 Inside j n = leb j.entry 2 && leb (j.first + j.count) n
+
+pub inside_ends : {b : Bool} {n : ℕ} (j : Job) → b ≡ Inside j n → not b ≡ false → j.first + j.count ≤ n
+inside_ends {b} {n} j e h = leb-true (j.first + j.count) n (and_second (leb j.entry 2) (leb (j.first + j.count) n) (sym e ∙ not-false b h))
 
 pub outcome_outside : (ks ls : List ℕ) (n : ℕ) (j : Job) → Inside j (length ks) ≡ false → outcome ks ls n (job_of j) ≡ refused 12 0
 unfolding outcome guard
@@ -50,6 +54,10 @@ pub parsed : {b : Bool} {r : Result ℕ Refusal} {free' : List ℕ} (j : Job) (a
 parsed {b} j asked ks ls free e h a w = rw (outcome_inside ks ls (length free) j (sym e ∙ not-false b h), sym a, sym (part_is j ks), sym (part_is j ls)) w
 
 -- ## Its rows in the table, and its answer
+
+-- how many elements are free
+pub free_length : (taken : ℕ) (tab : List ℕ) → length (take (length tab - taken) (drop taken tab)) ≡ length tab - taken
+free_length taken tab = length-take-le (length tab - taken) (drop taken tab) (omega (arith, length-drop taken tab))
 
 module _ {taken n : ℕ} {ks ls tab free' : List ℕ} {r : Result ℕ Refusal} {a : Answer} (j : Job) (m : Runs taken ks ls tab) (f : n ≡ length tab - 4 * taken)
     (w : Leaves (outcome ks ls n (job_of j)) n r free') (e : a ≡ record { number = number r; place = place r; rows = rows r }) where

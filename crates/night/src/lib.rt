@@ -78,7 +78,6 @@ fn job_rows(job: Job, kinds: &[u8], lens: &[u32], free: &mut [u32]) -> Result<u3
 
 // One job, its record with the answer: the table behind the rows taken is what is free. (The lists and the table come as C lends them, here and in `night`; each
 // job has other parts of them.)
-#[tactic(auto, using(crate::specs::Steps::done))]
 fn run(job: Job, rows: usize, kinds: &[u8], lens: &[u32], table: &mut [u32]) -> Job
     requires { Runs rows kinds.now lens.now table.old }
     ensures { Done job rows kinds.now lens.now table.old result table.new }

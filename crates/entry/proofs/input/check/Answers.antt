@@ -9,7 +9,7 @@ pub returns-then-n-lens : goal.returns-then-n-lens
 returns-then-n-lens c = refuse_pair _ _ _ (ap not c.if-not-valid.false) c.if-n-lens.true
 
 pub returns-then-n-gt65535 : goal.returns-then-n-gt65535
-returns-then-n-gt65535 c = refuse_many _ _ _ (ap not c.if-not-valid.false) c.if-n-lens.false c.if-n-gt65535.true
+returns-then-n-gt65535 c = refuse_many _ _ _ (ap not c.if-not-valid.false) c.if-n-lens.false (omega arith)
 
 pub overflow_cast-result : goal.overflow_cast-result
 overflow_cast-result c = omega (arith, c.in-Some.ensures.inside, c.if-n-gt65535.false)

@@ -6,12 +6,12 @@ use Rattle.entry.proofs.input.first_not_token.Goals as goal
 pub loop-at-init : goal.loop-at-init
 loop-at-init c = omega arith
 
+pub loop-at-preserved : goal.loop-at-preserved
+loop-at-preserved c = not_go is_token c.args.kinds.now c.loop-at.at c.loop-at-test.true (sym c.is_token.ensures ∙ c.if-not-is_token.false) ∙ c.loop-at.invariant
+
 pub returns-then-not-is_token : goal.returns-then-not-is_token
 returns-then-not-is_token c =
     record { is = sym (not_stop is_token c.args.kinds.now c.loop-at.at c.loop-at-test.true (sym c.is_token.ensures ∙ c.if-not-is_token.true)) ∙ c.loop-at.invariant; inside = c.loop-at-test.true }
-
-pub loop-at-preserved : goal.loop-at-preserved
-loop-at-preserved c = not_go is_token c.args.kinds.now c.loop-at.at c.loop-at-test.true (sym c.is_token.ensures ∙ c.if-not-is_token.false) ∙ c.loop-at.invariant
 
 pub returns : goal.returns
 returns c =
