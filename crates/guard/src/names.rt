@@ -1,6 +1,6 @@
 // The kinds' names, from a list with a line `number name` for each.
-ghost use Rattle.std.specs.Prelude.{◌≡◌};
-ghost use Rattle.guard.specs.Names.{is_number};
+ghost use Rattle.std.specs.Prelude.{◌≡◌, IfSome};
+ghost use Rattle.guard.specs.Names.{is_number, IsPart};
 ghost use Rattle.text.specs.Written.{Grows};
 
 use std::io;
@@ -17,7 +17,9 @@ fn is_number(text: &[u8], number: u32) -> bool
 }
 
 // The name of a kind, behind its number and a space.
-fn name(names: &[u8], kind: u32) -> Option<&[u8]> {
+fn name(names: &[u8], kind: u32) -> Option<&[u8]>
+    ensures { IfSome result (λ name. IsPart name.now names.now) }
+{
     for line in names.split(|byte| *byte == b'\n') {
         let space = line.iter().position(|byte| *byte == b' ');
         if let Some(space) = space

@@ -144,15 +144,15 @@ IsCounted list part rest = (1 + get_or list 0 0 ≤ length list) × (part ≡ ta
 
 -- the same where the count stands behind k numbers
 module _ (list : List ℕ) (k : ℕ) where
-  count_at : get_or (drop k list) 0 0 ≡ get_or list k 0
-  count_at = get_or-drop k list 0 0 ∙ ap (λ (i : ℕ). get_or list i 0) (add-zero k)
+  count_behind : get_or (drop k list) 0 0 ≡ get_or list k 0
+  count_behind = get_or-drop k list 0 0 ∙ ap (λ (i : ℕ). get_or list i 0) (add-zero k)
 
   part_at : take (get_or (drop k list) 0 0) (drop 1 (drop k list)) ≡ take (get_or list k 0) (drop (k + 1) list)
   part_at =
-      ap (λ (n : ℕ). take n (drop 1 (drop k list))) count_at ∙ ap (λ (l : List ℕ). take (get_or list k 0) l) (drop-drop 1 k list)
+      ap (λ (n : ℕ). take n (drop 1 (drop k list))) count_behind ∙ ap (λ (l : List ℕ). take (get_or list k 0) l) (drop-drop 1 k list)
 
   rest_at : drop (1 + get_or (drop k list) 0 0) (drop k list) ≡ drop (k + (1 + get_or list k 0)) list
-  rest_at = ap (λ (n : ℕ). drop (1 + n) (drop k list)) count_at ∙ drop-drop (1 + get_or list k 0) k list
+  rest_at = ap (λ (n : ℕ). drop (1 + n) (drop k list)) count_behind ∙ drop-drop (1 + get_or list k 0) k list
 
 -- the lengths, behind the kinds, and the answer, behind the lengths
 module _ (list : List ℕ) {rest ks behind : List ℕ} (is : rest ≡ drop 4 list) (p : IsCounted rest ks behind) where
@@ -162,7 +162,7 @@ module _ (list : List ℕ) {rest ks behind : List ℕ} (is : rest ≡ drop 4 lis
 
   pub short_lens : length behind < 1 + get_or behind 0 0 → Case list → ⊥
   short_lens h c =
-      let n : get_or behind 0 0 ≡ nl list = ap (λ (l : List ℕ). get_or l 0 0) lens_behind ∙ count_at list (5 + nk list) in
+      let n : get_or behind 0 0 ≡ nl list = ap (λ (l : List ℕ). get_or l 0 0) lens_behind ∙ count_behind list (5 + nk list) in
       omega (arith, h, n, ap length lens_behind, length-drop (5 + nk list) list, c.whole)
 
   module _ {ls said : List ℕ} (q : IsCounted behind ls said) where
@@ -189,11 +189,45 @@ module _ (list : List ℕ) {rest ks behind : List ℕ} (is : rest ≡ drop 4 lis
           said_is = said_behind;
         }
 
+-- the parts by index, where t tokens are counted
+module _ (list : List ℕ) {t : ℕ} (tokens : t ≡ nk list) where
+  pub kinds_at : take (5 + t - 5) (drop 5 list) ≡ kinds_of list
+  unfolding kinds_of
+  kinds_at =
+      let e : 5 + t - 5 ≡ nk list = omega arith in
+      rw e
+
+  pub count_at : {l : ℕ} → l ≡ get_or list (5 + t) 0 → l ≡ nl list
+  count_at e = e ∙ ap (λ (k : ℕ). get_or list (5 + k) 0) tokens
+
+-- the kinds, once they are copied as bytes
+module _ (list kinds : List ℕ) {t : ℕ} (tokens : t ≡ nk list) (whole : 9 + t ≤ length list) where
+  kinds_count : length (take (5 + t - 5) (drop 5 list)) ≡ t
+  kinds_count =
+      let e : 5 + t - 5 ≡ t = omega arith in
+      rw e (length-take-le t (drop 5 list) (omega (arith, length-drop 5 list)))
+
+  pub copied_kinds : {r : Bool} {kinds' : List ℕ} → (r ≡ fits (take (5 + t - 5) (drop 5 list)) kinds) × (kinds' ≡ copied (take (5 + t - 5) (drop 5 list)) kinds) → r ≡ true →
+      (t ≤ length kinds) × (take t kinds' ≡ kinds_of list)
+  copied_kinds c is =
+      let f = copied_front (take (5 + t - 5) (drop 5 list)) kinds c is in
+      (omega (arith, f.0, kinds_count), rw (f.1, take_at (take (5 + t - 5) (drop 5 list)) (drop (length (take (5 + t - 5) (drop 5 list))) kinds) t kinds_count) (kinds_at list tokens))
+
+  pub bytes_fit : {r : Bool} → all_bytes (kinds_of list) ≡ true → t ≤ length kinds → r ≡ fits (take (5 + t - 5) (drop 5 list)) kinds → r ≡ true
+  bytes_fit b h e =
+      e ∙ sym (all_fit (take (5 + t - 5) (drop 5 list)) kinds (omega (arith, kinds_count)) (rw (kinds_at list tokens) b)).0
+
+pub said_length : (list : List ℕ) (to : ℕ) → length (take (length list - to) (drop to list)) ≡ length list - to
+said_length list to = rw (rest_of to list) (length-drop to list)
+
+pub same_parts : (n : ℕ) (a b : List ℕ) → n ≤ length a → n ≤ length b → length (take n a) ≡ length (take n b)
+same_parts n a b h k = length-take-le n a h ∙ sym (length-take-le n b k)
+
 -- ## What the answer comes to
 
-said_length : (list : List ℕ) → 9 + nk list + nl list ≤ length list → 3 ≤ length (said_of list)
+said_room : (list : List ℕ) → 9 + nk list + nl list ≤ length list → 3 ≤ length (said_of list)
 unfolding said_of
-said_length list h = omega (arith, length-drop (6 + nk list + nl list) list, h)
+said_room list h = omega (arith, length-drop (6 + nk list + nl list) list, h)
 
 kinds_length : (list : List ℕ) → 9 + nk list + nl list ≤ length list → length (kinds_of list) ≡ nk list
 unfolding kinds_of
@@ -210,7 +244,7 @@ same_case p q r s t u = record { yes = λ h. rw (sym p, sym q, sym r, sym s, sym
 
 module _ (list kinds table wanted : List ℕ) {e : Entry} {limit elements : ℕ} {ks ls said : List ℕ} (p : IsParts list e limit elements ks ls said) where
   pub parts_said : 3 ≤ length said
-  parts_said = rw p.said_is (said_length list p.whole)
+  parts_said = rw p.said_is (said_room list p.whole)
 
   -- a table too small for it
   pub too_large : length table < elements → Case list × Fits list kinds table wanted → ⊥

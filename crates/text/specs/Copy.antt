@@ -3,9 +3,9 @@
 use Rattle.std.specs.Prelude.{ℕ, zero, suc, ◌+◌, ◌≤◌, ◌<◌, ◌≡◌, refl, Bool, cond, ◌&&◌, List, [], ◌∷◌, ◌++◌, leb, length, get_or, set, take, drop}
 use Rattle.std.specs.List.{list_all}
 use Rattle.std.proofs.Math.Path.{sym}
-use Rattle.std.proofs.Common.{ap, ◌∙◌, not-suc-le-zero, le_of_suc-le-suc, add-one, arith, length-set}
+use Rattle.std.proofs.Common.{ap, ◌∙◌, not-suc-le-zero, le_of_suc-le-suc, add-one, arith, length-set, drop_of_length-le}
 use Rattle.std.proofs.Math.Bool.{true, false}
-use Rattle.std.proofs.Math.Seq.{take-length}
+use Rattle.std.proofs.Math.Seq.{take-length, drop-cons}
 use borrow.Author.Tests.{le-leb, lt-leb, leb-true}
 
 unfoldable pub all_bytes : List ℕ → Bool
@@ -33,6 +33,20 @@ pub all_bytes_test : (from : List ℕ) → list_all (λ x. leb x 255) from ≡ a
 unfolding all_bytes
 all_bytes_test [] = refl
 all_bytes_test (x ∷ l) = ap (λ (t : Bool). leb x 255 && t) (all_bytes_test l)
+
+-- what is left from a place on
+module _ (from : List ℕ) (i : ℕ) (h : i < length from) where
+  pub bytes_on : get_or from i 0 ≤ 255 → all_bytes (drop i from) ≡ all_bytes (drop (i + 1) from)
+  unfolding all_bytes
+  bytes_on k = rw (add-one, drop-cons from i 0, le-leb _ 255 k)
+
+  pub bytes_out : 255 < get_or from i 0 → all_bytes (drop i from) ≡ false
+  unfolding all_bytes
+  bytes_out k = rw (drop-cons from i 0, lt-leb _ 255 k)
+
+pub bytes_end : (from : List ℕ) (i : ℕ) → length from ≤ i → all_bytes (drop i from) ≡ true
+unfolding all_bytes
+bytes_end from i h = rw (drop_of_length-le from h)
 
 -- ## The loop
 
